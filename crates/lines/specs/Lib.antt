@@ -1,0 +1,4 @@
+pub mod Numerals
+pub mod Forms
+pub mod Scan
+pub mod Lines

@@ -1,0 +1,4 @@
+pub mod Marks
+pub mod Rows
+pub mod Scenarios
+pub mod Answers
