@@ -6,7 +6,7 @@ use dayfile::refusal::ReadRefusal;
 use records::LEG_RECORDS;
 use records::Leg;
 use records::STOP_RECORDS;
-use records::Stop;
+use records::route::window_only;
 use std::error::AnyError;
 use std::fs;
 use std::io::Write;
@@ -21,17 +21,7 @@ fn print_unread(rt: &LibcRuntime, refusal: ReadRefusal) -> Result<(), AnyError> 
 fn check_day(rt: &LibcRuntime) -> Result<(), AnyError> {
     let heap = rt.alloc();
     let text = fs::read(rt, "day.txt")?;
-    let no_stop = Stop {
-        opens: 0,
-        closes: 0,
-        serve: 0,
-        serve_deviation: 0,
-        deliver: 0,
-        deliver_deviation: 0,
-        pickup: 0,
-        pickup_deviation: 0,
-        rest: 0,
-    };
+    let no_stop = window_only(0, 0);
     let no_leg = Leg {
         travel: 0,
         travel_deviation: 0,

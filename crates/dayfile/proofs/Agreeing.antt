@@ -12,7 +12,8 @@ use Rattle.records.specs.declared.Leg.{Leg}
 use Rattle.lines.specs.declared.line.Line.{Line}
 use Rattle.lines.specs.declared.line.Line.the-variants as line
 use Rattle.dayfile.specs.Bounds.{subject}
-use Rattle.dayfile.specs.Days.{Day, stopAt, legAt, noStop, noLeg, windowOnly}
+use Rattle.records.specs.Records.{noStop, noLeg, windowOnly}
+use Rattle.dayfile.specs.Days.{Day, stopAt, legAt}
 use Rattle.dayfile.specs.Storing.{dayOf, put}
 use Rattle.dayfile.specs.declared.expectation.Expectation.{Expectation}
 use Rattle.dayfile.specs.declared.expectation.Expectation.the-variants as due

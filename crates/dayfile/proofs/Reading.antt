@@ -18,7 +18,8 @@ use Rattle.lines.specs.declared.line.Line.the-variants as line
 use Rattle.lines.specs.Forms.{lineText, formOf, InForm}
 use Rattle.lines.specs.Lines.{BeginsWith, Parsed}
 use Rattle.dayfile.specs.Bounds.{isTime, isQuantity, isBudget, isCount, soundStop, soundLeg, within, ordered, subject}
-use Rattle.dayfile.specs.Days.{Day, Valid, Clean, stopAt, legAt, noStop, noLeg, windowOnly, dayLines, dayText}
+use Rattle.records.specs.Records.{noStop, noLeg, windowOnly}
+use Rattle.dayfile.specs.Days.{Day, Valid, Clean, stopAt, legAt, dayLines, dayText}
 use Rattle.dayfile.specs.Storing.{dayOf, put}
 use Rattle.dayfile.specs.declared.expectation.Expectation.{Expectation}
 use Rattle.dayfile.specs.declared.expectation.Expectation.the-variants as due

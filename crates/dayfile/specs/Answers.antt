@@ -15,7 +15,8 @@ use Rattle.lines.specs.declared.line.Line.{Line}
 use Rattle.lines.specs.Forms.{lineText, formOf}
 use Rattle.lines.specs.Lines.{BeginsWith}
 use Rattle.dayfile.specs.Bounds.{within, ordered, subject}
-use Rattle.dayfile.specs.Days.{Day, Valid, Clean, noStop, noLeg, dayLines, dayText}
+use Rattle.records.specs.Records.{noStop, noLeg}
+use Rattle.dayfile.specs.Days.{Day, Valid, Clean, dayLines, dayText}
 use Rattle.dayfile.specs.Storing.{dayOf}
 use Rattle.dayfile.specs.declared.expectation.Question.{Question}
 use Rattle.dayfile.specs.declared.expectation.Question.the-variants as question

@@ -2,10 +2,12 @@
 use mathlib.Core.Path.{_≡_}
 use mathlib.Core.Bool.{Bool, true, cond}
 use mathlib.Core.List.{List, [], _∷_, _++_}
-use Prim.Native.Nat.{ℕ, zero, suc, _+_, _*_, _≤_, _<_}
+use Prim.Native.Nat.{ℕ, zero, suc, _≤_, _<_}
 use lib.Dec.{eqb}
-use lib.ListN.{length, getD}
+use lib.ListN.{length}
 use Rattle.std.specs.Joined.{joined}
+use Rattle.records.specs.Records.{noStop, noLeg, windowOnly}
+use Rattle.records.specs.Steps.{stopOf, legOf}
 use Rattle.records.specs.declared.Head.{Head}
 use Rattle.records.specs.declared.Stop.{Stop}
 use Rattle.records.specs.declared.Leg.{Leg}
@@ -20,25 +22,11 @@ pub record Day : Type 0 where
   pub stops : List Stop
   pub legs : List Leg
 
-abbrev pub noHead : Head
-noHead = record { capacity = 0; drive = 0; «travel_budget» = 0; «serve_budget» = 0; «demand_budget» = 0; stops = 0 }
-
-abbrev pub noStop : Stop
-noStop = record { opens = 0; closes = 0; serve = 0; «serve_deviation» = 0; deliver = 0; «deliver_deviation» = 0; pickup = 0; «pickup_deviation» = 0; rest = 0 }
-
-abbrev pub noLeg : Leg
-noLeg = record { travel = 0; «travel_deviation» = 0 }
-
--- a record that has a window and nothing else, as the depot's
-abbrev pub windowOnly : ℕ → ℕ → Stop
-windowOnly o c = record { opens = o; closes = c; serve = 0; «serve_deviation» = 0; deliver = 0; «deliver_deviation» = 0; pickup = 0; «pickup_deviation» = 0; rest = 0 }
-
 abbrev pub stopAt : Day → ℕ → Stop
-stopAt d k = getD (d .stops) k noStop
+stopAt d k = stopOf (d .stops) k
 
--- the leg from i to j is at 41 × i + j of the table
 abbrev pub legAt : Day → ℕ → ℕ → Leg
-legAt d i j = getD (d .legs) (41 * i + j) noLeg
+legAt d i j = legOf (d .legs) i j
 
 -- The figures that the day's text has are within their bounds, and no window closes before it opens.
 pub record Valid (d : Day) : Type 0 where

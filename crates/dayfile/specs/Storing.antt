@@ -6,7 +6,8 @@ use Rattle.records.specs.declared.Stop.{Stop}
 use Rattle.records.specs.declared.Leg.{Leg}
 use Rattle.lines.specs.declared.line.Line.{Line}
 use Rattle.lines.specs.declared.line.Line.the-variants as line
-use Rattle.dayfile.specs.Days.{Day, windowOnly}
+use Rattle.records.specs.Records.{windowOnly}
+use Rattle.dayfile.specs.Days.{Day}
 use mathlib.Core.List.{List}
 
 abbrev pub dayOf : Head → List Stop → List Leg → Day

@@ -2,14 +2,13 @@
 ghost use mathlib.Core.Path.{_≡_};
 ghost use Prim.Native.Nat.{_≤_};
 ghost use lib.ListN.{length, replicate};
-ghost use Rattle.dayfile.specs.Days.{noHead, noStop, noLeg};
+ghost use Rattle.records.specs.Records.{noHead, noStop, noLeg};
 ghost use Rattle.dayfile.specs.Expecting.{isNothing};
 ghost use Rattle.dayfile.specs.Answers.{refusedLine, LinesRead, Read};
 use crate::expectation::Expectation;
 use crate::expectation::Question;
 use crate::judge::judge;
 use crate::refusal::ReadRefusal;
-use crate::store::depot;
 use crate::store::store;
 use lines::line::parse;
 use records::Head;
@@ -17,6 +16,7 @@ use records::LEG_RECORDS;
 use records::Leg;
 use records::STOP_RECORDS;
 use records::Stop;
+use records::route::window_only;
 
 // The longest text that is read, in bytes.
 pub const LONGEST_TEXT: usize = 65_536;
@@ -94,7 +94,7 @@ fn clear_tables(stops: &mut [Stop], legs: &mut [Leg])
     ensures stops { λ _. ⌜ now (stops .exit) ≡ replicate (length (now (stops .entry))) noStop ⌝ }
     ensures legs { λ _. ⌜ now (legs .exit) ≡ replicate (length (now (legs .entry))) noLeg ⌝ }
 {
-    clear(stops, depot(0, 0));
+    clear(stops, window_only(0, 0));
     let none = Leg {
         travel: 0,
         travel_deviation: 0,

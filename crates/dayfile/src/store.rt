@@ -1,30 +1,13 @@
 // The figures of a line, put into the day's head and tables.
 ghost use mathlib.Core.Path.{_≡_};
 ghost use lib.ListN.{length};
-ghost use Rattle.dayfile.specs.Days.{windowOnly};
 ghost use Rattle.dayfile.specs.Storing.{dayOf, put, Storable};
 use lines::line::Line;
 use records::Head;
 use records::Leg;
 use records::STOP_RECORDS;
 use records::Stop;
-
-// A record that has a window and nothing else.
-pub(crate) fn depot(opens: u32, closes: u32) -> Stop
-    ensures { λ r. ⌜ r ≡ windowOnly opens closes ⌝ }
-{
-    Stop {
-        opens,
-        closes,
-        serve: 0,
-        serve_deviation: 0,
-        deliver: 0,
-        deliver_deviation: 0,
-        pickup: 0,
-        pickup_deviation: 0,
-        rest: 0,
-    }
-}
+use records::route::window_only;
 
 pub(crate) fn store(line: Line, head: &mut Head, stops: &mut [Stop], legs: &mut [Leg])
     requires { ⌜ Storable line ⌝ ∗ ⌜ length (now stops) ≡ 41 ⌝ ∗ ⌜ length (now legs) ≡ 1681 ⌝ }
@@ -33,7 +16,7 @@ pub(crate) fn store(line: Line, head: &mut Head, stops: &mut [Stop], legs: &mut 
     match line {
         Line::Day | Line::End => {}
         Line::Depot(opens, closes) => {
-            let record = depot(opens, closes);
+            let record = window_only(opens, closes);
             stops[0] = record;
         }
         Line::Capacity(n) => head.capacity = n,

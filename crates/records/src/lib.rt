@@ -1,5 +1,6 @@
 // The records that a day is kept in: stops, legs and the day's head. Times are seconds, quantities are crates.
 
+pub mod route;
 pub mod step;
 
 // How many records the stop table has: the depot and at most 40 stops.

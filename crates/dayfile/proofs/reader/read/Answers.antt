@@ -1,7 +1,7 @@
 use mathlib.Core.Path.{_≡_, refl, sym, ap, _∙_}
 use native.Mathlib.Omega.{arith}
 use lib.ListN.{length, replicate}
-use Rattle.dayfile.specs.Days.{noStop, noLeg}
+use Rattle.records.specs.Records.{noStop, noLeg}
 use Rattle.dayfile.proofs.Outcomes.{answered-refused, answered-granted}
 use Rattle.dayfile.proofs.Sizes.{day-short}
 use Rattle.dayfile.proofs.reader.read.Needs as need

@@ -7,7 +7,7 @@ use Rattle.lines.specs.Lines.{Parsed}
 use Rattle.lines.specs.Forms.{lineText}
 use Rattle.std.specs.declared.option.Option.the-variants.{Some}
 use Rattle.dayfile.specs.Answers.{NoDay, Refused}
-use Rattle.dayfile.specs.Days.{noHead, noStop, noLeg}
+use Rattle.records.specs.Records.{noHead, noStop, noLeg}
 use Rattle.dayfile.specs.Storing.{dayOf}
 use Rattle.dayfile.specs.declared.expectation.Expectation.the-variants as due
 use Rattle.dayfile.proofs.Following.{some-bytes, nothing-due, something-due, storable}
