@@ -49,11 +49,20 @@ fn make_memory(heap: Global, stop_records: usize) -> Result<Memory, AllocError> 
     let stops = vec![in heap; stop; stop_records]?;
     let legs = vec![in heap; leg; LEG_RECORDS]?;
     let buffer = vec![in heap; 120u8; LONGEST_TEXT]?;
-    Ok(Memory { stops, legs, buffer })
+    Ok(Memory {
+        stops,
+        legs,
+        buffer,
+    })
 }
 
 fn answer(text: &[u8], memory: &mut Memory) -> Outcome {
-    match copy_day(text, memory.stops.as_mut_slice(), memory.legs.as_mut_slice(), memory.buffer.as_mut_slice()) {
+    match copy_day(
+        text,
+        memory.stops.as_mut_slice(),
+        memory.legs.as_mut_slice(),
+        memory.buffer.as_mut_slice(),
+    ) {
         Ok(length) => Outcome::Read(length),
         Err(CopyRefusal::Unread(refusal)) => Outcome::Unread(refusal.number(), refusal.line()),
         Err(CopyRefusal::Unwritten(refusal)) => Outcome::Unwritten(refusal.number()),
@@ -128,11 +137,23 @@ fn try_ends(rt: &LibcRuntime, day: &[u8], memory: &mut Memory) -> Result<(), Any
 fn try_lengths(rt: &LibcRuntime, day: &[u8], memory: &mut Memory) -> Result<(), AnyError> {
     let heap = rt.alloc();
     let full = filled_up(heap, day, b'x', LONGEST_TEXT)?;
-    show(rt, "filled up to 65536 bytes", answer(full.as_slice(), memory))?;
+    show(
+        rt,
+        "filled up to 65536 bytes",
+        answer(full.as_slice(), memory),
+    )?;
     let over = filled_up(heap, day, b'x', LONGEST_TEXT + 1)?;
-    show(rt, "filled up to 65537 bytes", answer(over.as_slice(), memory))?;
+    show(
+        rt,
+        "filled up to 65537 bytes",
+        answer(over.as_slice(), memory),
+    )?;
     let digits = filled_up(heap, b"", b'9', LONGEST_TEXT)?;
-    show(rt, "digits up to 65536 bytes", answer(digits.as_slice(), memory))
+    show(
+        rt,
+        "digits up to 65536 bytes",
+        answer(digits.as_slice(), memory),
+    )
 }
 
 fn try_greatest(rt: &LibcRuntime, memory: &mut Memory) -> Result<(), AnyError> {
@@ -142,7 +163,11 @@ fn try_greatest(rt: &LibcRuntime, memory: &mut Memory) -> Result<(), AnyError> {
     let cut = &text[0..text.len().saturating_sub(2)];
     show(rt, "greatest without its end", answer(cut, memory))?;
     let full = filled_up(rt.alloc(), text, b' ', LONGEST_TEXT)?;
-    show(rt, "greatest filled up to 65536 bytes", answer(full.as_slice(), memory))
+    show(
+        rt,
+        "greatest filled up to 65536 bytes",
+        answer(full.as_slice(), memory),
+    )
 }
 
 fn try_rubbish(rt: &LibcRuntime, day: &[u8], memory: &mut Memory) -> Result<(), AnyError> {
