@@ -1,8 +1,9 @@
-pub mod Following
-pub mod Places
 pub mod Agreeing
-pub mod Reading
-pub mod Outcomes
-pub mod Sizes
-pub mod Writing
 pub mod Copying
+pub mod Following
+pub mod Outcomes
+pub mod Places
+pub mod Reading
+pub mod Sizes
+pub mod Standing
+pub mod Writing

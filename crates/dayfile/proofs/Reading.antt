@@ -17,6 +17,7 @@ use Rattle.lines.specs.declared.line.Line.{Line}
 use Rattle.lines.specs.declared.line.Line.the-variants as line
 use Rattle.lines.specs.Forms.{lineText, formOf, InForm}
 use Rattle.lines.specs.Lines.{BeginsWith, Parsed}
+use Rattle.lines.proofs.Parsing.{kept-by-set}
 use Rattle.dayfile.specs.Bounds.{isTime, isQuantity, isBudget, isCount, soundStop, soundLeg, within, ordered, subject}
 use Rattle.records.specs.Records.{noStop, noLeg, windowOnly}
 use Rattle.dayfile.specs.Days.{Day, Valid, Clean, stopAt, legAt, dayLines, dayText}
@@ -46,14 +47,6 @@ pub record Sound (d : Day) : Type 0 where
   pub leg-count : length (d .legs) ≡ 1681
   pub stop : (k : ℕ) → StopSound (stopAt d k)
   pub leg : (k : ℕ) → soundLeg (getD (d .legs) k noLeg) ≡ true
-
--- what holds of each element holds after a write of such a one
-kept-by-set : {X : Type 0} (P : X → Type 0) (xs : List X) (i k : ℕ) (x d : X) → P x → P (getD xs k d) → P (getD (set xs i x) k d)
-kept-by-set P [] i k x d p q = q
-kept-by-set P (y ∷ xs) zero zero x d p q = p
-kept-by-set P (y ∷ xs) zero (suc k) x d p q = q
-kept-by-set P (y ∷ xs) (suc i) zero x d p q = q
-kept-by-set P (y ∷ xs) (suc i) (suc k) x d p q = kept-by-set P xs i k x d p q
 
 with-head : {d : Day} (h : Head) → SoundHead h → Sound d → Sound (dayOf h (d .stops) (d .legs))
 with-head h p s = record { head = p; stop-count = s .stop-count; leg-count = s .leg-count; stop = s .stop; leg = s .leg }

@@ -15,20 +15,16 @@ use Rattle.lines.specs.declared.line.Line.the-variants as line
 use Rattle.lines.specs.Scan.{holes}
 use Rattle.lines.specs.Forms.{template, formOf, figures, lineText, InForm}
 use Rattle.lines.proofs.Filling.{filled-short}
+use Rattle.lines.proofs.Parsing.{small-figures}
 use Rattle.dayfile.specs.Days.{Day, Valid, span, headLines, stopLine, legLine, legsFrom, dayLines, dayText, stopAt, legAt}
 use Rattle.dayfile.specs.Walking.{count, lineDue}
 use Rattle.dayfile.specs.declared.expectation.Expectation.the-variants as due
 use Rattle.dayfile.proofs.Places.{Range}
-use Rattle.dayfile.proofs.Outcomes.{fits, in-form}
+use Rattle.dayfile.proofs.Standing.{fits, in-form}
 
 joined-append : (ls ms : List Line) → joined lineText (ls ++ ms) ≡ joined lineText ls ++ joined lineText ms
 joined-append [] ms = refl
 joined-append (l ∷ ls) ms = ap (λ q. lineText l ++ q) (joined-append ls ms) ∙ sym (append-assoc (lineText l) (joined lineText ls) (joined lineText ms))
-
-small-figures : (ns : List ℕ) → All (λ n. n < 1000000) ns → (i : ℕ) → getD ns i 0 < 1000000
-small-figures [] a i = omega arith
-small-figures (n ∷ ns) a zero = a .0
-small-figures (n ∷ ns) a (suc i) = small-figures ns (a .1) i
 
 -- a line in form has a bounded length
 line-short : (l : Line) → InForm l → length (lineText l) ≤ length (template (formOf l)) + 5 * holes (template (formOf l))

@@ -16,8 +16,8 @@ use Rattle.std.proofs.shelf.Tests.{and-parts, leb-true, le-leb, cases-eq, cond-
 use Rattle.lines.specs.declared.line.Line.{Line}
 use Rattle.lines.specs.declared.line.Line.the-variants as line
 use Rattle.lines.specs.Forms.{lineText, formOf}
-use Rattle.lines.proofs.Filling.{Sofar, nothing-yet, part-written, all-written, written-size}
-use Rattle.lines.proofs.Filling.{fits as fits-in}
+use Rattle.records.proofs.Writing.{Sofar, nothing-yet, part-written, all-written, written-size}
+use Rattle.records.proofs.Writing.{fits as fits-in}
 use Rattle.dayfile.specs.Bounds.{within, ordered}
 use Rattle.dayfile.specs.Days.{Day, Valid, span, headLines, stopLine, legLine, legsFrom, dayLines, dayText, stopAt, legAt}
 use Rattle.dayfile.specs.Walking.{count, lineDue, Placed}
@@ -28,7 +28,7 @@ use Rattle.dayfile.specs.Expecting.{formDue, Follows, day, depot, capacity, dr
 use Rattle.dayfile.proofs.Places.{Range, from, from-step}
 use Rattle.dayfile.proofs.Reading.{range-put, range-cong}
 use Rattle.dayfile.proofs.Following.{follows-form}
-use Rattle.dayfile.proofs.Outcomes.{fits, leads}
+use Rattle.dayfile.proofs.Standing.{fits, leads}
 use Rattle.dayfile.proofs.Sizes.{day-short}
 
 -- a line whose numbers are within bounds and whose window is in order

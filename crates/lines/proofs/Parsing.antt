@@ -30,12 +30,16 @@ use Rattle.lines.proofs.Filling.{at-hole, at-byte, few-holes}
 abbrev pub Small : List ℕ → Type 0
 Small ns = (i : ℕ) → getD ns i 0 < 1000000
 
+-- what holds of each element holds after a write of such a one
+pub kept-by-set : {X : Type 0} (P : X → Type 0) (xs : List X) (i k : ℕ) (x d : X) → P x → P (getD xs k d) → P (getD (set xs i x) k d)
+kept-by-set P [] i k x d p q = q
+kept-by-set P (y ∷ xs) zero zero x d p q = p
+kept-by-set P (y ∷ xs) zero (suc k) x d p q = q
+kept-by-set P (y ∷ xs) (suc i) zero x d p q = q
+kept-by-set P (y ∷ xs) (suc i) (suc k) x d p q = kept-by-set P xs i k x d p q
+
 small-set : (ns : List ℕ) (k n : ℕ) → n < 1000000 → Small ns → Small (set ns k n)
-small-set [] k n h s i = s i
-small-set (x ∷ ns) zero n h s zero = h
-small-set (x ∷ ns) zero n h s (suc i) = s (suc i)
-small-set (x ∷ ns) (suc k) n h s zero = s zero
-small-set (x ∷ ns) (suc k) n h s (suc i) = small-set ns k n h (λ j. s (suc j)) i
+small-set ns k n h s i = kept-by-set (λ x. x < 1000000) ns k i n 0 h (s i)
 
 -- what a scan that came through says of the text
 record Scanned (p : List ℕ) (k : ℕ) (ns t ns′ r : List ℕ) : Type 0 where
@@ -191,7 +195,7 @@ first-sound (f ∷ fs) t l r e = go (asForm f t) refl e (first-sound fs t l r)
     go None is e more = more e
     go (Some found) is e more = as-form-sound f t l r (is ∙ e)
 
-small-figures : (ns : List ℕ) → All (λ n. n < 1000000) ns → Small ns
+pub small-figures : (ns : List ℕ) → All (λ n. n < 1000000) ns → Small ns
 small-figures [] a i = omega arith
 small-figures (n ∷ ns) a zero = a .0
 small-figures (n ∷ ns) a (suc i) = small-figures ns (a .1) i

@@ -3,16 +3,16 @@ use mathlib.Core.Path.{_≡_, refl, sym, ap, subst, _∙_}
 use mathlib.Core.Bool.{Bool, true, false, cond, _&&_}
 use mathlib.Core.List.{List, [], _∷_, _++_}
 use Prim.Native.Nat.{ℕ, zero, suc, _+_, _≤_, _<_}
-use native.Mathlib.Numerals.{add-one}
 use native.Mathlib.Omega.{arith}
 use lib.Dec.{leb}
-use lib.ListN.{length, getD, take, drop, set, length-set}
-use Rattle.std.proofs.shelf.Lists.{drop-more, at-drop-all, append-assoc, append-nil, take-more-set, drop-set-lt, take-append-drop, drop-drop, length-append, length-take-le}
+use lib.ListN.{length, getD, drop, set}
+use Rattle.std.proofs.shelf.Lists.{drop-more, at-drop-all}
 use Rattle.std.proofs.shelf.Tests.{and-parts, and-left, leb-true, lt-leb, le-leb}
 use Rattle.records.specs.declared.Stop.{Stop}
 use Rattle.records.specs.declared.Leg.{Leg}
 use Rattle.records.specs.declared.step.Step.{Step}
 use Rattle.records.specs.Records.{windowOnly}
+use Rattle.records.proofs.Writing.{Sofar, nothing-yet, one-written, all-written}
 use Rattle.records.specs.Steps.{stopOf, legOf, stepCount, stepsFrom, stepsOf, inTable}
 
 -- a stop that the table does not have
@@ -34,27 +34,24 @@ length-steps ss ls i (k ∷ ks) = ap suc (length-steps ss ls k ks) ∙ omega ari
 -- the steps to the stops before number `at` are written, and the van stands at place `from`
 pub record Walking (ss : List Stop) (ls : List Leg) (ks : List ℕ) (old out : List Step) (from at : ℕ) : Type 0 where
   pub near : from ≤ 40
-  pub front : take at out ++ stepsFrom ss ls from (drop at ks) ≡ stepsFrom ss ls 0 ks
-  pub back : drop at out ≡ drop at old
+  pub sofar : Sofar (stepsFrom ss ls 0 ks) old out (stepsFrom ss ls from (drop at ks)) at
 
-module _ (ss : List Stop) (ls : List Leg) (ks : List ℕ) (old out : List Step) (from at : ℕ) (w : Walking ss ls ks old out from at) where
-  written : (s : Step) → at < length out → (rest : List Step) → stepsFrom ss ls from (drop at ks) ≡ s ∷ rest → take (at + 1) (set out at s) ++ rest ≡ stepsFrom ss ls 0 ks
-  written s h rest is = ap (λ q. q ++ rest) (take-more-set out at s h) ∙ append-assoc (take at out) (s ∷ []) rest ∙ ap (λ q. take at out ++ q) (sym is) ∙ w .front
+pub at-depot : (ss : List Stop) (ls : List Leg) (ks : List ℕ) (old : List Step) → Walking ss ls ks old old 0 0
+at-depot ss ls ks old = record { near = omega arith; sofar = nothing-yet (stepsFrom ss ls 0 ks) old }
 
-  later : (s : Step) → drop (at + 1) (set out at s) ≡ drop (at + 1) old
-  later s = drop-set-lt (at + 1) out at s (omega arith) ∙ sym (drop-drop 1 at out) ∙ ap (drop 1) (w .back) ∙ drop-drop 1 at old
+module _ (ss : List Stop) (ls : List Leg) (ks : List ℕ) (old out : List Step) (from at : ℕ) (w : Walking ss ls ks old out from at) (room : length ks + 1 ≤ length out) where
+  short : length (stepsFrom ss ls 0 ks) ≤ length out
+  short = omega (arith, length-steps ss ls 0 ks)
 
-  pub walk-on : (k : ℕ) (s : Step) → at < length out → at < length ks → k ≡ getD ks at 0 → k ≤ 40 → s ≡ record { leg = legOf ls from k; stop = stopOf ss k } → Walking ss ls ks old (set out at s) k (at + 1)
-  walk-on k s h g is small e = record {
+  pub walk-on : (k : ℕ) (s : Step) → at < length ks → k ≡ getD ks at 0 → k ≤ 40 → s ≡ record { leg = legOf ls from k; stop = stopOf ss k } → Walking ss ls ks old (set out at s) k (at + 1)
+  walk-on k s g is small e = record {
     near = small;
-    front = written s h (stepsFrom ss ls k (drop (at + 1) ks)) (ap (stepsFrom ss ls from) (drop-more ks at 0 g) ∙ (λ i. record { leg = legOf ls from (sym is i); stop = stopOf ss (sym is i) } ∷ stepsFrom ss ls (sym is i) (drop (at + 1) ks)) ∙ ap (λ q. q ∷ stepsFrom ss ls k (drop (at + 1) ks)) (sym e));
-    back = later s;
+    sofar = one-written _ _ _ _ _ (w .sofar) short s (stepsFrom ss ls k (drop (at + 1) ks)) (ap (stepsFrom ss ls from) (drop-more ks at 0 g) ∙ (λ i. record { leg = legOf ls from (sym is i); stop = stopOf ss (sym is i) } ∷ stepsFrom ss ls (sym is i) (drop (at + 1) ks)) ∙ ap (λ q. q ∷ stepsFrom ss ls k (drop (at + 1) ks)) (sym e));
   }
 
-  pub walk-home : (s : Step) → at < length out → at ≡ length ks → s ≡ record { leg = legOf ls from 0; stop = windowOnly (stopOf ss 0 .opens) (stopOf ss 0 .closes) } → set out at s ≡ stepsFrom ss ls 0 ks ++ drop (length ks + 1) old
-  walk-home s h all e =
-      let front = sym (append-nil (take (at + 1) (set out at s))) ∙ written s h [] (at-drop-all (stepsFrom ss ls from) ks at (omega arith) ∙ ap (λ q. q ∷ []) (sym e)) in
-      sym (take-append-drop (at + 1) (set out at s)) ∙ (λ i. front i ++ later s i) ∙ ap (λ n. stepsFrom ss ls 0 ks ++ drop (n + 1) old) all
+  pub walk-home : (s : Step) → at ≡ length ks → s ≡ record { leg = legOf ls from 0; stop = windowOnly (stopOf ss 0 .opens) (stopOf ss 0 .closes) } → set out at s ≡ stepsFrom ss ls 0 ks ++ drop (length ks + 1) old
+  walk-home s all e =
+      all-written _ _ _ _ _ (one-written _ _ _ _ _ (w .sofar) short s [] (at-drop-all (stepsFrom ss ls from) ks at (omega arith) ∙ ap (λ q. q ∷ []) (sym e))) refl ∙ ap (λ n. stepsFrom ss ls 0 ks ++ drop n old) (length-steps ss ls 0 ks)
 
 pub steps-some : (ss : List Stop) (ls : List Leg) (ks : List ℕ) → 0 < stepCount ks → (stepsFrom ss ls 0 ks ≡ stepsOf ss ls ks) × (length ks + 1 ≡ stepCount ks)
 steps-some ss ls [] h = absurd (omega arith)

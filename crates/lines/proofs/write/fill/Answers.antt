@@ -7,7 +7,8 @@ use lib.ListN.{length, getD, drop, length-append}
 use Rattle.std.specs.Written.{decimal}
 use Rattle.std.proofs.shelf.Lists.{at-drop-all}
 use Rattle.lines.specs.Forms.{filled}
-use Rattle.lines.proofs.Filling.{Sofar, fits, part-written, byte-written, all-written, moved, next-number, next-byte}
+use Rattle.records.proofs.Writing.{fits, part-written, one-written, all-written, moved}
+use Rattle.lines.proofs.Filling.{next-number, next-byte}
 use Rattle.lines.proofs.Scanning.{holes-at-hole, holes-at-byte}
 use Rattle.lines.proofs.write.fill.Needs as need
 use Rattle.lines.proofs.write.fill.Needs.{After-digit-count, then-c-eq-HOLE, else-c-eq-HOLE}
@@ -48,7 +49,7 @@ loop-c-again c = elim (c .if-c-eq-HOLE .came) [
       let text = next-byte (c .args .template .now) (c .loop-c .c-index) (c .loop-c .used) (c .args .numbers .now) (c .loop-c-test .taken) (w .if-c-eq-HOLE .left) in (
         omega (arith, w .used-is),
         moved _ _ _ _ _ _ _ _ (w .out-is) (ap (λ k. filled (drop (c .loop-c .c-index + 1) (c .args .template .now)) k (c .args .numbers .now)) (w .used-is)) (w .at-is)
-            (byte-written _ _ _ _ _ (c .loop-c .inv .1) (omega arith) _ _ text),
+            (one-written _ _ _ _ _ (c .loop-c .inv .1) (omega arith) _ _ text),
       )
 ]
 

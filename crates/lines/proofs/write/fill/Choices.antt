@@ -2,7 +2,7 @@ use Prim.Native.Nat.{_+_, _≤_}
 use lib.ListN.{length, drop}
 use Rattle.lines.specs.Scan.{holes}
 use Rattle.lines.specs.Forms.{filled}
-use Rattle.lines.proofs.Filling.{Sofar}
+use Rattle.records.proofs.Writing.{Sofar}
 use Rattle.lines.proofs.write.fill.Given as given
 
 abbrev pub Inv-loop-c : given.InvT-loop-c
