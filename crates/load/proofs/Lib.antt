@@ -1,2 +1,2 @@
-mod Laws
-mod Room
+pub mod Laws
+pub mod Room

@@ -9,6 +9,11 @@ use Rattle.std.specs.declared.option.Option.the-variants.{Some, None}
 use Rattle.records.specs.declared.Head.{Head}
 use Rattle.resource.specs.declared.refusal.Refusal.{Refusal}
 use Rattle.resource.specs.declared.refusal.Refusal.the-variants.{FigureTooGreat, BudgetTooGreat}
+use Rattle.resource.specs.Scenarios.{Budget, Accepts}
+use Rattle.time.specs.Hours.{onTime}
+use Rattle.load.specs.Carrying.{neverOverloaded}
+use Rattle.duty.specs.Driving.{restsInTime}
+use Rattle.layered.specs.Layered.{layeredWidth}
 use Rattle.time.specs.declared.Time.{Time}
 use Rattle.load.specs.declared.Load.{Load}
 use Rattle.duty.specs.declared.Duty.{Duty}
@@ -31,3 +36,17 @@ pub record PileOf (h : Head) (opens : ℕ) (p : Product) : Type 0 where
   pub time : p .below .below .below .first .beginning ≡ opens
   pub load : p .below .below .below .second .first .capacity ≡ h .capacity
   pub duty : p .below .below .below .second .second .limit ≡ h .drive
+
+-- its layers, the outermost first
+abbrev pub productLayers : Head → List Budget
+productLayers h =
+    record { class = 1; most = h .«travel_budget» } ∷ record { class = 2; most = h .«serve_budget» } ∷ record { class = 4; most = h .«demand_budget» } ∷ []
+
+-- the width of its rows: four words under three layers
+abbrev pub productWidth : Head → ℕ
+productWidth h = layeredWidth (h .«travel_budget») (layeredWidth (h .«serve_budget») (layeredWidth (h .«demand_budget») 4))
+
+-- What the resource under it accepts, said of the route: with its marks, the van is in time everywhere, never carries too
+-- much, and is never driven for too long without a rest.
+abbrev pub keepsAll : Head → ℕ → Accepts
+keepsAll h opens ss ms = onTime opens ss ms && (neverOverloaded (h .capacity) ss ms && restsInTime (h .drive) ss ms)

@@ -13,7 +13,7 @@ use Rattle.records.specs.declared.step.Step.{Step}
 use Rattle.records.specs.Records.{noLeg, windowOnly}
 use Rattle.records.specs.Steps.{stepsOf}
 use Rattle.resource.specs.Rows.{run}
-use Rattle.resource.specs.Scenarios.{Budget, Accepts, firstDay}
+use Rattle.resource.specs.Scenarios.{Accepts, firstDay}
 use Rattle.words.specs.Days.{ownVerdict}
 use Rattle.words.specs.Words.{greater, sound}
 use Rattle.time.specs.Hours.{hours}
@@ -21,6 +21,7 @@ use Rattle.load.specs.Carrying.{carrying}
 use Rattle.duty.specs.Driving.{driving}
 use Rattle.pair.specs.Sides.{pairExtension, pairVerdict}
 use Rattle.layered.specs.Layered.{layeredStart, layeredExtension}
+use Rattle.pile.specs.Product.{productLayers}
 
 -- the day of the worked figures: its head, its stops and its legs
 abbrev pub headA : Head
@@ -43,11 +44,6 @@ legsA home1 =
 abbrev pub productAccepts : Head → ℕ → Accepts
 productAccepts h opens =
     ownVerdict (pairVerdict 1 sound (pairVerdict 2 sound sound)) (pairExtension 1 hours (pairExtension 2 (carrying (h .capacity)) (driving (h .drive)))) ((opens ∷ []) ++ ((0 ∷ 0 ∷ []) ++ (0 ∷ [])))
-
--- its layers, the outermost first
-abbrev pub productLayers : Head → List Budget
-productLayers h =
-    record { class = 1; most = h .«travel_budget» } ∷ record { class = 2; most = h .«serve_budget» } ∷ record { class = 4; most = h .«demand_budget» } ∷ []
 
 -- the first day of a route, none where it survives
 abbrev pub productDay : Head → List Stop → List Leg → List ℕ → Option (List ℕ)
