@@ -1,4 +1,7 @@
 // Tries day files that are not as they should be, and some that are: prints a line for each.
+
+#![tactic(auto)]
+
 use anyhow::anyhow;
 use dayfile::copier::copy_day;
 use dayfile::reader::LONGEST_TEXT;

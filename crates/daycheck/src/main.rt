@@ -1,4 +1,7 @@
 // Reads `day.txt` in the current folder and prints the day back byte by byte, or one line that says why it is not read.
+
+#![tactic(auto)]
+
 use anyhow::anyhow;
 use dayfile::copier::copy_day;
 use dayfile::reader::LONGEST_TEXT;

@@ -1,4 +1,7 @@
 // Day files: a day's text is read exactly when it is the text of a valid day, and written back byte by byte.
+
+#![tactic(auto)]
+
 pub mod bounds;
 pub mod copier;
 pub mod expectation;

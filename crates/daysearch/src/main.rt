@@ -1,4 +1,7 @@
 // Compares the first days that piles find with a plain enumeration of all scenarios, on small random routes.
+
+#![tactic(auto)]
+
 use crate::cases::{Case, Random, Shape, make_case};
 use crate::piles::ask_pile;
 use crate::rules::at;

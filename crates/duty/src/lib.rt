@@ -1,4 +1,7 @@
 // Duty as a resource: the time that a van is driven without a rest.
+
+#![tactic(auto)]
+
 ghost use Rattle.std.specs.Prelude.{◌≡◌, ◌≤◌, [], ◌∷◌, length, ◌==◌};
 ghost use Rattle.std.proofs.Common.{sym, rules, arith};
 ghost use Rattle.resource.specs.Answers.{row_answer};

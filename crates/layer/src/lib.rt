@@ -1,5 +1,8 @@
 // A budget layer over any resource: on each route at most so many steps, the budget, have marks of the layer's class.
 // A layer is a resource itself, so layers can be piled up.
+
+#![tactic(auto)]
+
 ghost use Rattle.std.specs.Prelude.{◌≡◌, ℕ, ◌≤◌, true, ◌∷◌, Some, None, MatchResult};
 ghost use Rattle.std.proofs.Common.{sym, subst, rules, arith};
 ghost use Rattle.layered.specs.Layered.{layered_width, layered_start, layered_extension, layered_join, layered_verdict};
@@ -65,7 +68,7 @@ impl<B: Resource> Resource for Layer<B> {
 
     ghost layers = { λ l. record { class = l.class; most = l.budget } ∷ B.Resource.layers l.below };
 
-    ghost accepts = { λ l. B.Resource.pre l.below };
+    ghost accepts = { λ l. B.Resource.accepts l.below };
 
     ghost bounded = { first_of (Prim.search rules, Prim.grind (arith, Self.row.coded.inj)) };
 
@@ -81,7 +84,7 @@ impl<B: Resource> Resource for Layer<B> {
         let b = r.below in
         let fit = fits r.budget (B.Resource.width b) narrow in
         let judges = B.Resource.judges_every_scenario b fit.below in
-        layered_judges (B.Resource.start b) (B.Resource.extension b) (B.Resource.verdict b) (B.Resource.layers b) (B.Resource.pre b) judges (record { class = r.class; most = r.budget }) (B.Resource.lawful b fit.below) ss ms same };
+        layered_judges (B.Resource.start b) (B.Resource.extension b) (B.Resource.verdict b) (B.Resource.layers b) (B.Resource.accepts b) judges (record { class = r.class; most = r.budget }) (B.Resource.lawful b fit.below) ss ms same };
 
     fn row_width(&self) -> usize {
         let width = (self.budget + 1) * self.below.row_width();

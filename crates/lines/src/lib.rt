@@ -1,4 +1,7 @@
 // One line of a day file: its forms, its text, and how it is read and written.
+
+#![tactic(auto)]
+
 pub mod line;
 mod numeral;
 mod scan;

@@ -1,4 +1,7 @@
 // Load as a resource: what a van has picked up, and the most that it carries at once.
+
+#![tactic(auto)]
+
 ghost use Rattle.std.specs.Prelude.{◌≡◌, ◌≤◌, [], ◌∷◌, length, ◌==◌};
 ghost use Rattle.std.proofs.Common.{sym, rules, arith};
 ghost use Rattle.resource.specs.Answers.{row_answer};

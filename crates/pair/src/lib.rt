@@ -1,4 +1,7 @@
 // A pair of any two resources: their rows stand one behind the other, and each side extends and joins for itself.
+
+#![tactic(auto)]
+
 ghost use Rattle.std.specs.Prelude.{◌≡◌, [], ◌++◌, length, ◌==◌};
 ghost use Rattle.std.proofs.Common.{sym, rules};
 ghost use Rattle.resource.specs.Answers.{row_answer};

@@ -1,4 +1,7 @@
 // The product's pile, made from a day's head.
+
+#![tactic(auto)]
+
 ghost use Rattle.std.specs.Prelude.{◌≡◌, ℕ, length, take, is_some, Some, None, MatchResult};
 ghost use Rattle.records.specs.declared.Head.{Head as DayHead};
 ghost use Rattle.resource.specs.Answers.{day_answer, day_list};

@@ -1,5 +1,7 @@
 // The records that a day is kept in: stops, legs and the day's head. Times are seconds, quantities are crates.
 
+#![tactic(auto)]
+
 pub mod limits;
 pub mod route;
 pub mod step;

@@ -1,5 +1,8 @@
 // What a resource is: a van's hour, load or driving time, or any other that keeps the laws, and piles of budget layers
 // over one. Whoever builds on a resource sees this interface alone.
+
+#![tactic(auto)]
+
 pub mod interface;
 pub mod limits;
 pub mod refusal;

@@ -1,4 +1,7 @@
 // A resource of a crate's own: how many stops a van has made and how many legs were late, each under a limit.
+
+#![tactic(auto)]
+
 ghost use Rattle.std.specs.Prelude.{◌≡◌, ◌≤◌, [], ◌∷◌, length, ◌==◌};
 ghost use Rattle.std.proofs.Common.{sym, rules, arith};
 ghost use Rattle.resource.specs.Answers.{row_answer};

@@ -1,4 +1,7 @@
 // Time as a resource: the hour at which a van leaves each stop, under the stops' time windows.
+
+#![tactic(auto)]
+
 ghost use Rattle.std.specs.Prelude.{◌≡◌, ◌≤◌, [], ◌∷◌, length, ◌==◌};
 ghost use Rattle.std.proofs.Common.{sym, rules, arith};
 ghost use Rattle.resource.specs.Answers.{row_answer};

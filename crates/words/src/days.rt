@@ -17,7 +17,7 @@ pub fn refused_as_marked<R: Unlayered>(
     marks: &[u8],
     work: &mut [u32],
 ) -> Result<bool, Refusal>
-    ensures { result ≡ day_answer (width resource.now) (length steps.now) (length marks.now) (length work.old) (not (own_verdict (verdict resource.now) (extension resource.now) (start resource.now) steps.now (take (length steps.now) marks.now))) }
+    ensures { result ≡ day_answer (R.width resource.now) (length steps.now) (length marks.now) (length work.old) (not (own_verdict (R.verdict resource.now) (R.extension resource.now) (R.start resource.now) steps.now (take (length steps.now) marks.now))) }
 {
     let width = resource.words();
     if width > WIDEST {
@@ -49,11 +49,11 @@ fn judge_run<R: Unlayered>(
     row: &mut [u32],
     next: &mut [u32],
 ) -> Result<bool, Refusal>
-    requires narrow { width resource.now ≤ widest }
+    requires narrow { R.width resource.now ≤ widest }
     requires marks { length marks.now ≡ length steps.now }
-    requires row { length row.old ≡ width resource.now }
-    requires next { length next.old ≡ width resource.now }
-    ensures { result ≡ Ok (own_verdict (verdict resource.now) (extension resource.now) (start resource.now) steps.now marks.now) }
+    requires row { length row.old ≡ R.width resource.now }
+    requires next { length next.old ≡ R.width resource.now }
+    ensures { result ≡ Ok (own_verdict (R.verdict resource.now) (R.extension resource.now) (R.start resource.now) steps.now marks.now) }
 {
     resource.begin(row)?;
     for i in 0..steps.len() {

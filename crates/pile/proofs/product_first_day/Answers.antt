@@ -8,10 +8,10 @@ pub returns : goal.returns
 returns c = record {
   answer = λ h opens is.
       let p = c.args.pile.now in
-      c.first-day.ensures.answer
+      c.first_day.ensures.answer
       ∙ (λ i. day_answer (the_width h opens p is i) (length c.args.steps.now) (length c.args.marks.now) (length c.args.work.now) (is_some (first_day (accepts_all h opens p is i) (the_layers h opens p is i) c.args.steps.now (take (length c.args.steps.now) c.args.marks.now))));
   list = λ h opens is.
       let p = c.args.pile.now in
-      c.first-day.ensures.list
-      ∙ (λ i. day_list c.first-day.result (first_day (accepts_all h opens p is i) (the_layers h opens p is i) c.args.steps.now (take (length c.args.steps.now) c.args.marks.now)) c.args.marks.now);
+      c.first_day.ensures.list
+      ∙ (λ i. day_list c.first_day.result (first_day (accepts_all h opens p is i) (the_layers h opens p is i) c.args.steps.now (take (length c.args.steps.now) c.args.marks.now)) c.args.marks.now);
 }

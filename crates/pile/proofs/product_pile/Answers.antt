@@ -2,30 +2,30 @@ use Rattle.std.proofs.Common.{sym, ap, ◌∙◌, rules}
 use Rattle.pile.proofs.Making.{demand_budget, serve_budget, travel_budget, the_figure}
 use Rattle.pile.proofs.product_pile.Goals as goal
 
-pub returns-in-err-demand : goal.returns-in-err-demand
-returns-in-err-demand c = let told = sym (demand_budget _) ∙ c.in-err-demand.ensures in search rules
+pub returns-in_err-demand : goal.returns-in_err-demand
+returns-in_err-demand c = let told = sym (demand_budget _) ∙ c.in_err-demand.ensures in search rules
 
-pub returns-in-err-serve : goal.returns-in-err-serve
-returns-in-err-serve c =
-    let demand = sym (demand_budget _) ∙ c.in-ok-demand.ensures.0 in
-    let told = sym (serve_budget _) ∙ c.in-err-serve.ensures in
+pub returns-in_err-serve : goal.returns-in_err-serve
+returns-in_err-serve c =
+    let demand = sym (demand_budget _) ∙ c.in_ok-demand.ensures.0 in
+    let told = sym (serve_budget _) ∙ c.in_err-serve.ensures in
     search rules
 
-pub returns-in-err-travel : goal.returns-in-err-travel
-returns-in-err-travel c =
-    let demand = sym (demand_budget _) ∙ c.in-ok-demand.ensures.0 in
-    let serve = sym (serve_budget _) ∙ c.in-ok-serve.ensures.0 in
-    let told = sym (travel_budget _) ∙ c.in-err-travel.ensures in
+pub returns-in_err-travel : goal.returns-in_err-travel
+returns-in_err-travel c =
+    let demand = sym (demand_budget _) ∙ c.in_ok-demand.ensures.0 in
+    let serve = sym (serve_budget _) ∙ c.in_ok-serve.ensures.0 in
+    let told = sym (travel_budget _) ∙ c.in_err-travel.ensures in
     search rules
 
 pub returns : goal.returns
 returns c =
-    let time = c.in-ok-first.ensures in
-    let load = c.in-ok-load.ensures in
-    let duty = c.in-ok-duty.ensures in
-    let demand = c.in-ok-demand.ensures in
-    let serve = c.in-ok-serve.ensures in
-    let travel = c.in-ok-travel.ensures in
+    let time = c.in_ok-first.ensures in
+    let load = c.in_ok-load.ensures in
+    let duty = c.in_ok-duty.ensures in
+    let demand = c.in_ok-demand.ensures in
+    let serve = c.in_ok-serve.ensures in
+    let travel = c.in_ok-travel.ensures in
     let few = sym (demand_budget _) ∙ demand.0 in
     let fewer = sym (serve_budget _) ∙ serve.0 in
     let fewest = sym (travel_budget _) ∙ travel.0 in

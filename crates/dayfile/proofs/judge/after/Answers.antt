@@ -29,10 +29,10 @@ pub returns-in-Stops-Stops : goal.returns-in-Stops-Stops
 returns-in-Stops-Stops c = carried c.in-Stops-Stops.is-0 c.in-Stops-Stops.is-1 refl expecting.stops
 
 pub returns-in-Stop-Stop : goal.returns-in-Stop-Stop
-returns-in-Stop-Stop c = carried c.in-Stop-Stop.is-0 c.in-Stop-Stop.is-1 c.after-stop.ensures expecting.stop
+returns-in-Stop-Stop c = carried c.in-Stop-Stop.is-0 c.in-Stop-Stop.is-1 c.after_stop.ensures expecting.stop
 
 pub returns-in-Leg-Leg : goal.returns-in-Leg-Leg
-returns-in-Leg-Leg c = carried c.in-Leg-Leg.is-0 c.in-Leg-Leg.is-1 c.after-leg.ensures expecting.leg
+returns-in-Leg-Leg c = carried c.in-Leg-Leg.is-0 c.in-Leg-Leg.is-1 c.after_leg.ensures expecting.leg
 
 pub returns-in-End-End : goal.returns-in-End-End
 returns-in-End-End c = carried c.in-End-End.is-0 c.in-End-End.is-1 refl expecting.end

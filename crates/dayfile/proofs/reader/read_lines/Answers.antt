@@ -13,15 +13,15 @@ use Rattle.dayfile.proofs.reader.read_lines.Goals.{In-Some, After-loop-due}
 
 pub loop-due-init : goal.loop-due-init
 loop-due-init c = (
-  subst (λ h. Reading c.args.text.now due.Day (day_of h c.args.stops.now c.args.legs.now) c.args.text.now 1) (sym c.empty-head-head.ensures)
+  subst (λ h. Reading c.args.text.now due.Day (day_of h c.args.stops.now c.args.legs.now) c.args.text.now 1) (sym c.empty_head-head.ensures)
       (subst (λ s. Reading c.args.text.now due.Day (day_of no_head s c.args.legs.now) c.args.text.now 1) (sym c.requires.1.0)
       (subst (λ l. Reading c.args.text.now due.Day (day_of no_head (replicate 41 no_stop) l) c.args.text.now 1) (sym c.requires.1.1) (at_start c.args.text.now))),
   omega arith,
 )
 
-pub returns-in-default : goal.returns-in-default
-returns-in-default c =
-    let r = no_line _ _ _ _ _ c.loop-due.invariant.0 (something_due _ (sym c.loop-due-test.ensures)) c.in-default.ensures in
+pub returns-in_default : goal.returns-in_default
+returns-in_default c =
+    let r = no_line _ _ _ _ _ c.loop-due.invariant.0 (something_due _ (sym c.loop-due-test.ensures)) c.in_default.ensures in
     (r.1, r.0)
 
 pub returns-in-Err : goal.returns-in-Err
@@ -55,11 +55,11 @@ loop-due-preserved c = (
 done : (c : After-loop-due) → Reading c.args.text.now due.Nothing (day_of c.loop-due.head c.loop-due.stops c.loop-due.legs) c.loop-due.rest.now c.loop-due.number
 done c = subst (λ e. Reading c.args.text.now e (day_of c.loop-due.head c.loop-due.stops c.loop-due.legs) c.loop-due.rest.now c.loop-due.number) (nothing_due _ (sym c.loop-due-test.ensures)) c.loop-due.invariant.0
 
-pub returns-then-is-empty : goal.returns-then-is-empty
-returns-then-is-empty c = whole_day _ _ _ _ (done (goal.at.returns-then-is-empty c).After-loop-due) (eqb-true _ 0 (sym c.if-is-empty.ensures))
+pub returns-then-is_empty : goal.returns-then-is_empty
+returns-then-is_empty c = whole_day _ _ _ _ (done (goal.at.returns-then-is_empty c).After-loop-due) (eqb-true _ 0 (sym c.if-is_empty.ensures))
 
-pub returns-else-is-empty : goal.returns-else-is-empty
-returns-else-is-empty c =
-    let some = eqb-false _ 0 (sym c.if-is-empty.ensures) in
-    let r = goes_on _ _ _ _ (done (goal.at.returns-else-is-empty c).After-loop-due) (omega arith) in
+pub returns-else-is_empty : goal.returns-else-is_empty
+returns-else-is_empty c =
+    let some = eqb-false _ 0 (sym c.if-is_empty.ensures) in
+    let r = goes_on _ _ _ _ (done (goal.at.returns-else-is_empty c).After-loop-due) (omega arith) in
     (r.1, r.0)

@@ -11,5 +11,5 @@ returns c =
     let steps = c.args.steps.now in
     let marks = c.args.marks.now in
     let work = length c.args.work.now in
-    let answered = c.refused-as-marked.ensures in
+    let answered = c.refused_as_marked.ensures in
     record { answer = day_answer_lem accepts steps marks 1 work _ answered; list = day_list_lem accepts steps marks 1 work _ answered }

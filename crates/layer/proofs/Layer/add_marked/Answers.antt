@@ -11,10 +11,10 @@ loop-g-preserved g c =
     let w = c.args.wide in
     let n = suc c.args.self.now.budget in
     let law = laws_below w c.args.self.now.budget (g.met.B.Resource.lawful b) c.requires.below c.requires.narrow in
-    let next = c.row-begin-next.ensures.value ∙ ap (λ k. k * w) (add-one c.loop-g.g) in
+    let next = c.row_begin-next.ensures.value ∙ ap (λ k. k * w) (add-one c.loop-g.g) in
     changed_put w n (λ k y. join_lower (g.B.Resource.join b) (λ _. y) (λ k. g.B.Resource.extension b c.args.step.now c.args.marks (row_at w c.args.from.now k)) k) c.args.onto.now c.requires.onto (join_lower_keeps law n (λ k. g.B.Resource.extension b c.args.step.now c.args.marks (row_at w c.args.from.now k)) (λ k h. law.extension_width c.args.step.now c.args.marks _ (length-row_at w n c.args.from.now c.requires.from k h)))
-    (suc c.loop-g.g) (suc (c.loop-g.g + 1)) _ _ c.loop-g.onto c.extend-onto.new.onto (omega arith) next (omega arith) (omega arith) c.loop-g.invariant
-    (c.in-ok-extend-onto.ensures.row ∙ ap₂ (λ y z. g.B.Resource.join b y (g.B.Resource.extension b c.args.step.now c.args.marks z)) (row_part w (suc c.loop-g.g) _ _ c.loop-g.onto next refl) (row_part w c.loop-g.g _ _ c.args.from.now c.row-begin-at.ensures.value refl))
+    (suc c.loop-g.g) (suc (c.loop-g.g + 1)) _ _ c.loop-g.onto c.extend_onto.new.onto (omega arith) next (omega arith) (omega arith) c.loop-g.invariant
+    (c.in_ok-extend_onto.ensures.row ∙ ap₂ (λ y z. g.B.Resource.join b y (g.B.Resource.extension b c.args.step.now c.args.marks z)) (row_part w (suc c.loop-g.g) _ _ c.loop-g.onto next refl) (row_part w c.loop-g.g _ _ c.args.from.now c.row_begin-at.ensures.value refl))
 
 pub returns : goal.returns
 returns g c =

@@ -4,8 +4,8 @@ use Rattle.layered.specs.Days.{accepted}
 use Rattle.layered.proofs.Choosing.{choosing_more, choosing_all}
 use Rattle.layer.proofs.Layer.choose_set.Goals as goal
 
-pub choose-step-requires : goal.choose-step-requires
-choose-step-requires g c =
+pub choose_step-requires : goal.choose_step-requires
+choose_step-requires g c =
     let l = c.args.self.now in
     let i = c.loop-i.i in
     record {
@@ -26,9 +26,9 @@ loop-i-preserved g c =
     let l = c.args.self.now in
     let e = g.B.Resource.extension l.below in
     let v = g.B.Resource.verdict l.below in
-    let chose = c.in-ok-left.ensures in (
+    let chose = c.in_ok-left.ensures in (
       omega arith,
-      choosing_more e v l.class c.args.steps.now _ c.loop-i.marks c.loop-i.row c.loop-i.i c.loop-i.left c.choose-step.new.marks c.choose-step.new.row c.in-ok-left.left
+      choosing_more e v l.class c.args.steps.now _ c.loop-i.marks c.loop-i.row c.loop-i.i c.loop-i.left c.choose_step.new.marks c.choose_step.new.row c.in_ok-left.left
           (omega arith) c.loop-i.invariant.1 chose,
     )
 

@@ -8,29 +8,29 @@ returns-then-branch g c =
     let l = c.args.self.now in
     let e = g.B.Resource.extension l.below in
     let v = g.B.Resource.verdict l.below in
-    let on = c.copy-from-slice.ensures.after in
-    let test = ok_same _ _ c.in-ok-refuses.ensures in
+    let on = c.copy_from_slice.ensures.after in
+    let test = ok_same _ _ c.in_ok-refuses.ensures in
     let refused = rest_refused e v l.class c.args.steps.now c.args.marks.now c.extend.new.into c.args.left _ test c.if-branch.true in
-    chose_plain e v l.class c.args.steps.now c.args.marks.now c.args.row.now c.args.left _ c.copy-from-slice.new.self c.requires.some c.requires.marks
-    (on ∙ c.in-ok-extend.ensures.row) (rw on refused)
+    chose_plain e v l.class c.args.steps.now c.args.marks.now c.args.row.now c.args.left _ c.copy_from_slice.new.self c.requires.some c.requires.marks
+    (on ∙ c.in_ok-extend.ensures.row) (rw on refused)
 
-pub overflow-sub-result : goal.overflow-sub-result
-overflow-sub-result g c =
+pub overflow_sub-result : goal.overflow_sub-result
+overflow_sub-result g c =
     let l = c.args.self.now in
     let e = g.B.Resource.extension l.below in
     let v = g.B.Resource.verdict l.below in
-    let test = ok_same _ _ c.in-ok-refuses.ensures in
+    let test = ok_same _ _ c.in_ok-refuses.ensures in
     let free = rest_accepted e v l.class c.args.steps.now c.args.marks.now c.extend.new.into c.args.left _ test c.if-branch.false in
     some_left e v l.class c.args.steps.now c.args.marks.now c.args.row.now c.args.left _ c.extend.new.into
-    (record { some = c.requires.some; same = c.requires.marks; refused = c.requires.refused; unmarked = c.in-ok-extend.ensures.row; free = free })
+    (record { some = c.requires.some; same = c.requires.marks; refused = c.requires.refused; unmarked = c.in_ok-extend.ensures.row; free = free })
 
 pub returns : goal.returns
 returns g c =
     let l = c.args.self.now in
     let e = g.B.Resource.extension l.below in
     let v = g.B.Resource.verdict l.below in
-    let test = ok_same _ _ c.in-ok-refuses.ensures in
+    let test = ok_same _ _ c.in_ok-refuses.ensures in
     let free = rest_accepted e v l.class c.args.steps.now c.args.marks.now c.extend.new.into c.args.left _ test c.if-branch.false in
     chose_marked e v l.class c.args.steps.now c.args.marks.now c.args.row.now c.args.left _ c.extend.new.into
-    (record { some = c.requires.some; same = c.requires.marks; refused = c.requires.refused; unmarked = c.in-ok-extend.ensures.row; free = free })
-    c.copy-from-slice-2.new.self (c.copy-from-slice-2.ensures.after ∙ c.in-ok-extend-2.ensures.row)
+    (record { some = c.requires.some; same = c.requires.marks; refused = c.requires.refused; unmarked = c.in_ok-extend.ensures.row; free = free })
+    c.copy_from_slice-2.new.self (c.copy_from_slice-2.ensures.after ∙ c.in_ok-extend-2.ensures.row)

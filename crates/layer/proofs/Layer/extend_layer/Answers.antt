@@ -10,8 +10,8 @@ returns g c =
     let law = laws_below c.args.wide l.budget (g.met.B.Resource.lawful l.below) c.requires.below c.requires.narrow in
     let added = λ (m : ℕ) (y : List ℕ). rows (suc l.budget) (join_lower (g.B.Resource.join l.below) (row_at c.args.wide y) (λ k. g.B.Resource.extension l.below c.args.step.now m (row_at c.args.wide c.args.from.now k))) in
     record {
-      answer = c.add-marked.ensures.answer;
-      row = c.add-marked.ensures.row
-          ∙ ap₂ added c.marked.ensures c.extend-rows.ensures.row
+      answer = c.add_marked.ensures.answer;
+      row = c.add_marked.ensures.row
+          ∙ ap₂ added c.marked.ensures c.extend_rows.ensures.row
           ∙ extended law l.class l.budget c.args.step.now c.args.marks c.args.from.now c.requires.from;
     }

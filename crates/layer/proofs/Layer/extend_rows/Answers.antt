@@ -11,8 +11,8 @@ loop-g-preserved g c =
     let n = suc c.args.self.now.budget in
     let law = laws_below w c.args.self.now.budget (g.met.B.Resource.lawful b) c.requires.below c.requires.narrow in
     changed_put w n (λ k _. g.B.Resource.extension b c.args.step.now c.args.marks (row_at w c.args.from.now k)) c.args.into.now c.requires.into (λ k _ h _. law.extension_width c.args.step.now c.args.marks _ (length-row_at w n c.args.from.now c.requires.from k h))
-    c.loop-g.g (c.loop-g.g + 1) _ _ c.loop-g.into c.extend.new.into (omega arith) c.row-begin-at.ensures.value (omega arith) (omega arith) c.loop-g.invariant
-    (c.in-ok-extend.ensures.row ∙ ap (g.B.Resource.extension b c.args.step.now c.args.marks) (row_part w c.loop-g.g _ _ c.args.from.now c.row-begin-at.ensures.value refl))
+    c.loop-g.g (c.loop-g.g + 1) _ _ c.loop-g.into c.extend.new.into (omega arith) c.row_begin-at.ensures.value (omega arith) (omega arith) c.loop-g.invariant
+    (c.in_ok-extend.ensures.row ∙ ap (g.B.Resource.extension b c.args.step.now c.args.marks) (row_part w c.loop-g.g _ _ c.args.from.now c.row_begin-at.ensures.value refl))
 
 pub returns : goal.returns
 returns g c =

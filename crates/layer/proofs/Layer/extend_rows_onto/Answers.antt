@@ -11,8 +11,8 @@ loop-g-preserved g c =
     let n = suc c.args.self.now.budget in
     let law = laws_below w c.args.self.now.budget (g.met.B.Resource.lawful b) c.requires.below c.requires.narrow in
     changed_put w n (λ k y. g.B.Resource.join b y (g.B.Resource.extension b c.args.step.now c.args.marks (row_at w c.args.from.now k))) c.args.onto.now c.requires.onto (λ k y h long. law.join_width y _ long (law.extension_width c.args.step.now c.args.marks _ (length-row_at w n c.args.from.now c.requires.from k h)))
-    c.loop-g.g (c.loop-g.g + 1) _ _ c.loop-g.onto c.extend-onto.new.onto (omega arith) c.row-begin-at.ensures.value (omega arith) (omega arith) c.loop-g.invariant
-    (c.in-ok-extend-onto.ensures.row ∙ ap₂ (λ y z. g.B.Resource.join b y (g.B.Resource.extension b c.args.step.now c.args.marks z)) (row_part w c.loop-g.g _ _ c.loop-g.onto c.row-begin-at.ensures.value refl) (row_part w c.loop-g.g _ _ c.args.from.now c.row-begin-at.ensures.value refl))
+    c.loop-g.g (c.loop-g.g + 1) _ _ c.loop-g.onto c.extend_onto.new.onto (omega arith) c.row_begin-at.ensures.value (omega arith) (omega arith) c.loop-g.invariant
+    (c.in_ok-extend_onto.ensures.row ∙ ap₂ (λ y z. g.B.Resource.join b y (g.B.Resource.extension b c.args.step.now c.args.marks z)) (row_part w c.loop-g.g _ _ c.loop-g.onto c.row_begin-at.ensures.value refl) (row_part w c.loop-g.g _ _ c.args.from.now c.row_begin-at.ensures.value refl))
 
 pub returns : goal.returns
 returns g c =

@@ -12,12 +12,12 @@ returns g c =
     let l = c.args.self.now in
     let w = c.args.wide in
     let law = laws_below w l.budget (g.met.B.Resource.lawful l.below) c.requires.below c.requires.narrow in
-    let at = c.row-begin-at.result in
-    let part = take (at + w - at) (drop at c.run-on.new.state) in
+    let at = c.row_begin-at.result in
+    let part = take (at + w - at) (drop at c.run_on.new.state) in
     let below = g.B.Resource.width l.below in
-    let judged = granted below (eqb (length part) below) c.in-ok-judge.field-0 (g.B.Resource.verdict l.below part) c.in-ok-judge.ensures in
-    let state = c.run-on.ensures.row ∙ ap (run (layered_extension l.class l.budget w (g.B.Resource.extension l.below) (g.B.Resource.join l.below)) c.args.steps.now c.args.marks.now) c.fill-rows.ensures in
+    let judged = granted below (eqb (length part) below) c.in_ok-judge.field-0 (g.B.Resource.verdict l.below part) c.in_ok-judge.ensures in
+    let state = c.run_on.ensures.row ∙ ap (run (layered_extension l.class l.budget w (g.B.Resource.extension l.below) (g.B.Resource.join l.below)) c.args.steps.now c.args.marks.now) c.fill_rows.ensures in
     ap (λ b. Ok (not b))
     (judged
-    ∙ ap (g.B.Resource.verdict l.below) (row_part w c.args.left _ _ c.run-on.new.state c.row-begin-at.ensures.value refl ∙ ap (λ x. row_at w x c.args.left) state)
+    ∙ ap (g.B.Resource.verdict l.below) (row_part w c.args.left _ _ c.run_on.new.state c.row_begin-at.ensures.value refl ∙ ap (λ x. row_at w x c.args.left) state)
     ∙ verdict_of_run law l.class l.budget c.args.steps.now c.args.marks.now c.args.row.now c.requires.marks c.requires.row c.args.left (omega arith))

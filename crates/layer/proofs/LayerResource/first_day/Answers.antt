@@ -16,14 +16,14 @@ returns-then-not-branch g c =
     let n = length c.args.steps.now in
     let ms = take n c.args.marks.now in
     let w = r.width l.below in
-    let wide = counted_below l.budget c.row-width-wide.result w c.row-width-wide.ensures c.if-width-gt-WIDEST.false in
-    let width = counted l.budget c.row-width-wide.result w c.row-width-wide.ensures c.if-width-gt-WIDEST.false in
+    let wide = counted_below l.budget c.row_width-wide.result w c.row_width-wide.ensures c.if-width-gt-WIDEST.false in
+    let width = counted l.budget c.row_width-wide.result w c.row_width-wide.ensures c.if-width-gt-WIDEST.false in
     let judges = g.met.B.Resource.judges_every_scenario l.below wide in
-    let all = not-false _ (sym (ok_same _ _ c.in-ok-choose-day.ensures.answer) ∙ c.if-not-branch.true) in
+    let all = not-false _ (sym (ok_same _ _ c.in_ok-choose_day.ensures.answer) ∙ c.if-not-branch.true) in
     let none = no_day (r.start l.below) (r.extension l.below) (r.verdict l.below) (r.layers l.below) (r.accepts l.below) judges (record { class = l.class; most = l.budget }) c.args.steps.now ms (length-take n c.args.marks.now ∙ omega arith) all in
     record {
       answer = ap (λ d. Ok (is_some d)) (sym none) ∙ sym (day_granted _ n (length c.args.marks.now) (length c.args.work.now) _ (omega arith) (omega arith) (omega arith) (omega arith));
-      list = ap (λ z. z ++ drop n c.args.marks.now) (c.in-ok-choose-day.ensures.list ∙ cond-true _ _ _ all)
+      list = ap (λ z. z ++ drop n c.args.marks.now) (c.in_ok-choose_day.ensures.list ∙ cond-true _ _ _ all)
           ∙ take-append-drop n c.args.marks.now ∙ sym (ap (λ d. day_list (Ok false) d c.args.marks.now) none);
     }
 
@@ -37,13 +37,13 @@ returns g c =
     let ms = take n old in
     let w = r.width l.below in
     let b : Budget = record { class = l.class; most = l.budget } in
-    let width = counted l.budget c.row-width-wide.result w c.row-width-wide.ensures c.if-width-gt-WIDEST.false in
-    let wide = counted_below l.budget c.row-width-wide.result w c.row-width-wide.ensures c.if-width-gt-WIDEST.false in
+    let width = counted l.budget c.row_width-wide.result w c.row_width-wide.ensures c.if-width-gt-WIDEST.false in
+    let wide = counted_below l.budget c.row_width-wide.result w c.row_width-wide.ensures c.if-width-gt-WIDEST.false in
     let judges = g.met.B.Resource.judges_every_scenario l.below wide in
     let long : length ms ≡ n = length-take n old ∙ omega arith in
-    let refused = not-true _ (sym (ok_same _ _ c.in-ok-choose-day.ensures.answer) ∙ c.if-not-branch.false) in
-    let new = c.choose-day.new.marks in
-    let chose = c.in-ok-choose-day.ensures.list ∙ cond-false _ _ _ refused in
+    let refused = not-true _ (sym (ok_same _ _ c.in_ok-choose_day.ensures.answer) ∙ c.if-not-branch.false) in
+    let new = c.choose_day.new.marks in
+    let chose = c.in_ok-choose_day.ensures.list ∙ cond-false _ _ _ refused in
     let sized : length new ≡ n = omega arith in
     let fd = first_day (r.accepts l.below) (b ∷ r.layers l.below) ss ms in
     let same = first_day-chosen (r.start l.below) (r.extension l.below) (r.verdict l.below) (r.layers l.below) (r.accepts l.below) judges b ss ms long refused in
@@ -51,16 +51,16 @@ returns g c =
     ap is_some same ∙ chosen_found (r.start l.below) (r.extension l.below) (r.verdict l.below) (r.layers l.below) (r.accepts l.below) judges b ss ms long refused in
     let below : first_day (r.accepts l.below) (r.layers l.below) ss (take n (new ++ drop n old)) ≡ fd =
     ap (first_day (r.accepts l.below) (r.layers l.below) ss) (take_at new (drop n old) n sized ∙ chose) ∙ sym same in
-    let room : 4 * w ≤ length c.choose-day.new.work = omega (arith, add-mul l.budget 1 c.row-width-wide.result) in
+    let room : 4 * w ≤ length c.choose_day.new.work = omega (arith, add-mul l.budget 1 c.row_width-wide.result) in
     let bytes : 41 ≤ length (new ++ drop n old) = omega (arith, length-append new (drop n old), length-drop n old) in
-    let answered : c.first-day.result ≡ Ok (is_some fd) =
-    c.first-day.ensures.answer
-    ∙ day_granted w n (length (new ++ drop n old)) (length c.choose-day.new.work) _ wide c.if-steps-gt-MOST-STEPS.false room bytes
+    let answered : c.first_day.result ≡ Ok (is_some fd) =
+    c.first_day.ensures.answer
+    ∙ day_granted w n (length (new ++ drop n old)) (length c.choose_day.new.work) _ wide c.if-steps-gt-MOST_STEPS.false room bytes
     ∙ ap (λ d. Ok (is_some d)) below in
     record {
       answer = answered ∙ sym (day_granted _ n (length old) (length c.args.work.now) _ (omega arith) (omega arith) (omega arith) (omega arith));
       list =
-          c.first-day.ensures.list
+          c.first_day.ensures.list
           ∙ ap₂ (λ a d. day_list a d (new ++ drop n old)) answered below
           ∙ day_list_lem fd (is_some fd) n new old sized (λ d e. length-first_day (r.accepts l.below) (b ∷ r.layers l.below) ss ms d e ∙ long) found
           ∙ sym (ap (λ a. day_list a fd old) answered);

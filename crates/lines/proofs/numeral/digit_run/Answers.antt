@@ -6,12 +6,12 @@ use Rattle.lines.proofs.numeral.digit_run.Goals as goal
 
 pub loop-n-preserved : goal.loop-n-preserved
 loop-n-preserved c =
-    let more = digit_run-more c.args.text.now c.loop-n.n c.loop-n-test.true (sym c.if-is-ascii-digit.ensures.value) in
+    let more = digit_run-more c.args.text.now c.loop-n.n c.loop-n-test.true (sym c.if-is_ascii_digit.ensures.value) in
     (omega arith, omega arith)
 
-pub returns-else-is-ascii-digit : goal.returns-else-is-ascii-digit
-returns-else-is-ascii-digit c =
-    let none = digit_run-none c.args.text.now c.loop-n.n c.loop-n-test.true (sym c.if-is-ascii-digit.ensures.value) in
+pub returns-else-is_ascii_digit : goal.returns-else-is_ascii_digit
+returns-else-is_ascii_digit c =
+    let none = digit_run-none c.args.text.now c.loop-n.n c.loop-n-test.true (sym c.if-is_ascii_digit.ensures.value) in
     record { value = omega arith; within = omega arith }
 
 pub returns-after-loop-n : goal.returns-after-loop-n

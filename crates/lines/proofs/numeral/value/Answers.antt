@@ -4,14 +4,14 @@ use Rattle.lines.specs.Numerals.{read_on}
 use Rattle.lines.proofs.Digits.{read_on-more, room, digit_at}
 use Rattle.lines.proofs.numeral.value.Goals as goal
 
-pub overflow-mul-n : goal.overflow-mul-n
-overflow-mul-n c = omega (arith, room c.loop-b.n c.args.digits.now c.loop-b.b-index c.loop-b-test.true c.loop-b.invariant c.requires.1 c.requires.0)
+pub overflow_mul-n : goal.overflow_mul-n
+overflow_mul-n c = omega (arith, room c.loop-b.n c.args.digits.now c.loop-b.b-index c.loop-b-test.true c.loop-b.invariant c.requires.1 c.requires.0)
 
-pub overflow-sub-n : goal.overflow-sub-n
-overflow-sub-n c = digit_at c.args.digits.now c.loop-b.b-index c.requires.1 c.loop-b-test.true
+pub overflow_sub-n : goal.overflow_sub-n
+overflow_sub-n c = digit_at c.args.digits.now c.loop-b.b-index c.requires.1 c.loop-b-test.true
 
-pub overflow-add-n : goal.overflow-add-n
-overflow-add-n c = omega (arith, room c.loop-b.n c.args.digits.now c.loop-b.b-index c.loop-b-test.true c.loop-b.invariant c.requires.1 c.requires.0)
+pub overflow_add-n : goal.overflow_add-n
+overflow_add-n c = omega (arith, room c.loop-b.n c.args.digits.now c.loop-b.b-index c.loop-b-test.true c.loop-b.invariant c.requires.1 c.requires.0)
 
 pub loop-b-preserved : goal.loop-b-preserved
 loop-b-preserved c = sym (read_on-more c.loop-b.n c.args.digits.now c.loop-b.b-index c.loop-b-test.true) ∙ c.loop-b.invariant

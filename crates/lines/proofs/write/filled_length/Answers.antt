@@ -10,8 +10,8 @@ use Rattle.lines.proofs.write.filled_length.Goals.{then-c-eq-HOLE, else-c-eq-HOL
 pub bounds-numbers-used : goal.bounds-numbers-used
 bounds-numbers-used c = omega (arith, holes_at_hole c.args.template.now c.loop-c.c-index c.loop-c-test.true c.if-c-eq-HOLE.true)
 
-pub overflow-add-total : goal.overflow-add-total
-overflow-add-total c = omega (arith, ten_digits (get_or c.args.numbers.now c.loop-c.used 0) (omega (arith, c.type-inv.numbers c.loop-c.used)), c.digit-count-total.ensures)
+pub overflow_add-total : goal.overflow_add-total
+overflow_add-total c = omega (arith, ten_digits (get_or c.args.numbers.now c.loop-c.used 0) (omega (arith, c.type_inv.numbers c.loop-c.used)), c.digit_count-total.ensures)
 
 pub loop-c-preserved : goal.loop-c-preserved
 loop-c-preserved c = elim c.if-c-eq-HOLE.branch [
@@ -20,8 +20,8 @@ loop-c-preserved c = elim c.if-c-eq-HOLE.branch [
       let text = next_number c.args.template.now c.loop-c.c-index c.loop-c.used c.args.numbers.now c.loop-c-test.true w.if-c-eq-HOLE.true in
       let long = ap length text ∙ length-append (decimal (get_or c.args.numbers.now c.loop-c.used 0)) _ in (
         omega (arith, w.used-is),
-        ap (λ k. c.if-c-eq-HOLE.total + length (filled (drop (c.loop-c.c-index + 1) c.args.template.now) k c.args.numbers.now)) w.used-is ∙ omega (arith, w.total-is, w.digit-count-total.ensures),
-        omega (arith, w.total-is, w.digit-count-total.ensures, ten_digits (get_or c.args.numbers.now c.loop-c.used 0) (omega (arith, c.type-inv.numbers c.loop-c.used))),
+        ap (λ k. c.if-c-eq-HOLE.total + length (filled (drop (c.loop-c.c-index + 1) c.args.template.now) k c.args.numbers.now)) w.used-is ∙ omega (arith, w.total-is, w.digit_count-total.ensures),
+        omega (arith, w.total-is, w.digit_count-total.ensures, ten_digits (get_or c.args.numbers.now c.loop-c.used 0) (omega (arith, c.type_inv.numbers c.loop-c.used))),
       )
   | else-c-eq-HOLE w ↦
       let same = holes_at_byte c.args.template.now c.loop-c.c-index c.loop-c-test.true w.if-c-eq-HOLE.false in

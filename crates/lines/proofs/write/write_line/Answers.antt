@@ -24,6 +24,6 @@ returns c =
     let e = text (goal.at.returns c).After-numbers-numbers in
     let le : length (line_text c.args.line) ≤ length c.args.out.now = omega (arith, ap length e) in
     record {
-      room = ap Some (c.filled-length-length.ensures ∙ ap length e) ∙ sym (cond-true _ _ _ (le-leb _ _ le));
+      room = ap Some (c.filled_length-length.ensures ∙ ap length e) ∙ sym (cond-true _ _ _ (le-leb _ _ le));
       bytes = c.fill.ensures ∙ ap (λ t. t ++ drop (length t) c.args.out.now) e ∙ sym (cond-true _ _ _ (le-leb _ _ le));
     }

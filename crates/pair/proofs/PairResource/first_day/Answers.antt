@@ -16,5 +16,5 @@ returns g c =
     let marks = c.args.marks.now in
     let width = pair_width a (g.Second.Resource.width two) in
     let work = length c.args.work.now in
-    let answered = c.refused-as-marked.ensures in
+    let answered = c.refused_as_marked.ensures in
     record { answer = day_answer_lem accepts steps marks width work _ answered; list = day_list_lem accepts steps marks width work _ answered }

@@ -9,8 +9,8 @@ returns g c =
     let from = c.args.from.now in
     let into = c.args.into.now in
     let front = c.extend.new.into in
-    let Split-from = split_tells c.in-ok-at.ensures in
-    let split-into = along Split-from (split_tells c.in-ok-split.ensures) in
+    let Split-from = split_tells c.in_ok-at.ensures in
+    let split-into = along Split-from (split_tells c.in_ok-split.ensures) in
     let kept = c.extend.auto.into in
     let r = c.extend-2.result in
     let answered = c.extend-2.ensures.answer in
@@ -18,5 +18,5 @@ returns g c =
       answer = both_answer from into front Split-from split-into kept r answered;
       row = both_row from into front Split-from split-into kept r answered
           (λ _. g.First.Resource.extension c.args.self.now.first step marks) (λ _. g.Second.Resource.extension c.args.self.now.second step marks)
-          c.extend-2.new.into c.in-ok-extend.ensures.row c.extend-2.ensures.row;
+          c.extend-2.new.into c.in_ok-extend.ensures.row c.extend-2.ensures.row;
     }

@@ -19,7 +19,7 @@ pub returns : goal.returns
 returns c =
     let home : 41 * c.loop-k.from ≡ 41 * c.loop-k.from + 0 = omega arith in
     walk_home _ _ _ _ _ _ _ c.loop-k.invariant.0 (omega arith) _ (omega arith)
-    (λ i. record { leg = get_or c.args.legs.now (home i) no_leg; stop = c.window-only-stop.ensures i })
+    (λ i. record { leg = get_or c.args.legs.now (home i) no_leg; stop = c.window_only-stop.ensures i })
 
 pub loop-k-init : goal.loop-k-init
 loop-k-init c = (at_depot _ _ _ _, refl)

@@ -10,7 +10,7 @@ loop-i-preserved g c =
     let marks = c.args.marks.now in
     let i = c.loop-i.i in
     let marked : i < length marks = omega arith in
-    ap (run ext (drop (i + 1) steps) (drop (i + 1) marks)) (c.copy-from-slice.ensures.after ∙ c.in-ok-advance.ensures.row)
+    ap (run ext (drop (i + 1) steps) (drop (i + 1) marks)) (c.copy_from_slice.ensures.after ∙ c.in_ok-advance.ensures.row)
     ∙ sym (run_more ext steps marks c.loop-i.row i _ c.loop-i-test.true marked) ∙ c.loop-i.invariant
 
 pub returns : goal.returns

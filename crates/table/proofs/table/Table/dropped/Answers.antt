@@ -9,26 +9,30 @@ use Rattle.table.proofs.table.Table.dropped.Goals as goal
 use Rattle.table.proofs.table.Table.dropped.Goals.{After-without}
 
 pub returns-then-number-eq0 : goal.returns-then-number-eq0
-returns-then-number-eq0 c = sym (dropped_free c.args.stop (routes_in c.args.self) (sym c.route-with-number.ensures ∙ c.if-number-eq0.true))
+returns-then-number-eq0 c = sym (dropped_free c.args.stop (routes_in c.args.self) (sym c.route_with-number.ensures ∙ c.if-number-eq0.true))
 
 pub listed : goal.listed
-listed c = omega (arith, route_place c.args.self c.args.stop _ c.route-with-number.ensures c.if-number-eq0.false)
+listed c = omega (arith, route_place c.args.self c.args.stop _ c.route_with-number.ensures c.if-number-eq0.false)
 
 pub bounds-self-at : goal.bounds-self-at
-bounds-self-at c = route_place c.args.self c.args.stop _ c.route-with-number.ensures c.if-number-eq0.false
+bounds-self-at c = route_place c.args.self c.args.stop _ c.route_with-number.ensures c.if-number-eq0.false
 
 pub bounds-routes-at : goal.bounds-routes-at
-bounds-routes-at c = route_place c.args.self c.args.stop _ c.route-with-number.ensures c.if-number-eq0.false
+bounds-routes-at c = route_place c.args.self c.args.stop _ c.route_with-number.ensures c.if-number-eq0.false
 
 -- the one route that held the stop is written, and that is the table without the stop
-written : (c : After-without) → routes_of (set c.args.self.routes (c.route-with-number.result - 1) c.without.result) ≡ dropped c.args.stop (routes_in c.args.self)
-written c = stored_dropped c.args.self c.args.stop _ c.route-with-number.ensures c.if-number-eq0.false _ _ c.without.ensures
+written : (c : After-without) → routes_of (set c.args.self.routes (c.route_with-number.result - 1) c.without.result) ≡ dropped c.args.stop (routes_in c.args.self)
+written c = stored_dropped c.args.self c.args.stop _ c.route_with-number.ensures c.if-number-eq0.false _ _ c.without.ensures
 
-pub invariant-of-result : goal.invariant-of-result
-invariant-of-result c =
+pub invariant_of-result : goal.invariant_of-result
+invariant_of-result c =
     let t = c.args.self in
     let x = c.args.stop in
-    (length-set t.routes _ _ ∙ t.eight, (ap apart (written c) ∙ apart-dropped x (routes_in t) t.apart, (ap stops_alone (written c) ∙ stops_dropped x (routes_in t) t.stops, tt)))
+    record {
+      eight = length-set t.routes _ _ ∙ t.eight;
+      apart = ap apart (written c) ∙ apart-dropped x (routes_in t) t.apart;
+      stops = ap stops_alone (written c) ∙ stops_dropped x (routes_in t) t.stops;
+    }
 
 pub returns : goal.returns
 returns c = written (goal.at.returns c).After-without

@@ -10,18 +10,22 @@ use Rattle.table.proofs.table.Table.placed.Goals.{After-with}
 
 pub with-requires : goal.with-requires
 with-requires c =
-    let fits = sym c.if-not-fits-in.ensures in
+    let fits = sym c.if-not-fits_in.ensures in
     record { room = placing_room c.args.self c.args.stop _ c.args.spot.place fits _; within = placing_within c.args.self c.args.stop _ c.args.spot.place fits _ }
 
 -- the one route is written, and that is the table with the stop put in
 written : (c : After-with) → routes_of (set c.args.self.routes (c.args.spot.route - 1) c.with.result) ≡ placed c.args.stop c.args.spot.route c.args.spot.place (routes_in c.args.self)
-written c = stored_placed c.args.self _ _ _ (sym c.if-not-fits-in.ensures) _ _ c.with.ensures
+written c = stored_placed c.args.self _ _ _ (sym c.if-not-fits_in.ensures) _ _ c.with.ensures
 
-pub invariant-of-result : goal.invariant-of-result
-invariant-of-result c =
+pub invariant_of-result : goal.invariant_of-result
+invariant_of-result c =
     let t = c.args.self in
-    let fits = sym c.if-not-fits-in.ensures in
-    (length-set t.routes _ _ ∙ t.eight, (ap apart (written c) ∙ placing_apart t _ _ _ fits, (ap stops_alone (written c) ∙ placing_stops t _ _ _ fits, tt)))
+    let fits = sym c.if-not-fits_in.ensures in
+    record {
+      eight = length-set t.routes _ _ ∙ t.eight;
+      apart = ap apart (written c) ∙ placing_apart t _ _ _ fits;
+      stops = ap stops_alone (written c) ∙ placing_stops t _ _ _ fits;
+    }
 
 pub returns : goal.returns
-returns c = ap Some (written (goal.at.returns c).After-with) ∙ sym (cond-true _ _ _ (sym c.if-not-fits-in.ensures))
+returns c = ap Some (written (goal.at.returns c).After-with) ∙ sym (cond-true _ _ _ (sym c.if-not-fits_in.ensures))

@@ -21,7 +21,7 @@ returns c =
     let from = c.loop-k.from in
     let at : 41 * from ≡ 41 * from + 0 = omega arith in
     let home = ap (λ q. (get_or ls q no_leg).travel) at in
-    let some = eqb-false (length ks) 0 (sym c.if-is-empty.ensures) in
+    let some = eqb-false (length ks) 0 (sym c.if-is_empty.ensures) in
     record {
       travel = λ ss. omega (arith, home, travel_home ss ls from ks c.loop-k.k-index c.loop-k-test.false, c.loop-k.invariant.2 ss, travel-some ss ls ks (omega arith));
       small = omega arith;
