@@ -1,8 +1,7 @@
 -- Days that agree with what was read so far. Assumes nothing.
-use Rattle.std.proofs.Common.{◌≡◌, ℕ, zero, suc, ◌+◌, ◌-◌, ◌*◌, ◌<◌, ◌≤◌, ◌≢◌, ◌⊎◌, length, get_or, set, sym, refl, ap, ◌∙◌, subst, inl, inr, ⊎_elim, arith}
+use Rattle.std.proofs.Common.{◌≡◌, ℕ, ◌+◌, ◌*◌, ◌<◌, ◌≤◌, ◌⊎◌, length, sym, refl, ap, ◌∙◌, subst, inl, inr, ⊎_elim, arith}
 use Rattle.std.proofs.lemmas.List.{get_or-set_same, get_or-set_other}
 use Rattle.std.proofs.lemmas.Bool.{cases_lt, cases_eq, cases_order}
-use Rattle.records.specs.declared.Head.{Head}
 use Rattle.records.specs.declared.Stop.{Stop}
 use Rattle.records.specs.declared.Leg.{Leg}
 use Rattle.lines.specs.declared.line.Line.{Line}
@@ -10,7 +9,7 @@ use Rattle.lines.specs.declared.line.Line.TheVariants as line
 use Rattle.dayfile.specs.Bounds.{subject}
 use Rattle.records.specs.Records.{no_stop, no_leg, window_only}
 use Rattle.dayfile.specs.Days.{Day, stop_at, leg_at}
-use Rattle.dayfile.specs.Storing.{day_of, put}
+use Rattle.dayfile.specs.Storing.{put}
 use Rattle.dayfile.specs.declared.expectation.Expectation.{Expectation}
 use Rattle.dayfile.specs.declared.expectation.Expectation.TheVariants as due
 use Rattle.dayfile.specs.Expecting.{subject_due, after_stop, after_leg, Follows, day, depot, capacity, drive, travel_budget, serve_budget, demand_budget, stops, stop, leg, end}

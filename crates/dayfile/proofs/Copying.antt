@@ -1,10 +1,10 @@
 -- A text that was read is written again byte by byte. Assumes nothing.
-use Rattle.std.proofs.Common.{◌≡◌, ℕ, ◌<◌, ◌≤◌, List, ◌++◌, length, drop, Ok, Err, sym, refl, ap, ◌∙◌, subst, ⊎_elim, arith}
+use Rattle.std.proofs.Common.{◌≡◌, ℕ, ◌<◌, ◌≤◌, List, ◌++◌, length, drop, Ok, Err, sym, subst, ⊎_elim, arith}
 use Rattle.std.proofs.lemmas.Bool.{cases_lt, cases_eq}
 use Rattle.records.specs.declared.Head.{Head}
 use Rattle.records.specs.declared.Stop.{Stop}
 use Rattle.records.specs.declared.Leg.{Leg}
-use Rattle.dayfile.specs.Days.{Day, Valid, Clean, day_text}
+use Rattle.dayfile.specs.Days.{Valid, Clean, day_text}
 use Rattle.dayfile.specs.Storing.{day_of}
 use Rattle.dayfile.specs.declared.refusal.WriteRefusal.{WriteRefusal}
 use Rattle.dayfile.specs.declared.refusal.WriteRefusal.TheVariants as write

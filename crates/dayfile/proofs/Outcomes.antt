@@ -1,15 +1,14 @@
 -- From the lines that were read to the answer: each turn of the reader, and each way in which it ends. Assumes nothing.
-use Rattle.std.proofs.Common.{◌≡◌, ℕ, zero, suc, ◌+◌, ◌-◌, ◌*◌, ◌<◌, ◌≤◌, Bool, true, false, ◌&&◌, leb, ◌⊎◌, List, [], ◌∷◌, ◌++◌, length, get_or, replicate, is_err, Some, None, Ok, Err, Result, sym, refl, ap, ◌∙◌, subst, inl, inr, ⊎_elim, add-one, arith, length-append}
+use Rattle.std.proofs.Common.{◌≡◌, ℕ, suc, ◌+◌, ◌*◌, ◌<◌, ◌≤◌, true, false, List, [], ◌∷◌, ◌++◌, length, get_or, replicate, is_err, Some, None, Ok, Err, Result, sym, refl, ap, ◌∙◌, subst, inl, inr, ⊎_elim, add-one, arith}
 use Rattle.std.specs.List.{flat_map}
 use Rattle.std.proofs.lemmas.List.{append_assoc, append-nil, append_cancel_left, flat_map_more, length_push, get_or-replicate, get_or_past, length-replicate, nil_from_length}
-use Rattle.std.proofs.lemmas.Bool.{and_parts, and_from, leb-true, le-leb, both_ways, cases_lt, true≢false, false≢true}
+use Rattle.std.proofs.lemmas.Bool.{both_ways, cases_lt, true≢false, false≢true}
 use Rattle.lines.specs.declared.line.Line.{Line}
-use Rattle.lines.specs.declared.line.Line.TheVariants as line
-use Rattle.lines.specs.Forms.{line_text, form_of, InForm}
+use Rattle.lines.specs.Forms.{line_text, form_of}
 use Rattle.lines.specs.Lines.{BeginsWith, Parsed}
-use Rattle.dayfile.specs.Bounds.{is_time, is_quantity, is_budget, is_count, sound_stop, sound_leg, within, ordered, subject}
-use Rattle.records.specs.Records.{no_head, no_stop, no_leg, window_only}
-use Rattle.dayfile.specs.Days.{Day, Valid, Clean, stop_at, leg_at, day_lines, day_text}
+use Rattle.dayfile.specs.Bounds.{sound_stop, sound_leg, within, ordered, subject}
+use Rattle.records.specs.Records.{no_head, no_stop, no_leg}
+use Rattle.dayfile.specs.Days.{Day, Valid, Clean, day_lines, day_text}
 use Rattle.dayfile.specs.Storing.{day_of, put}
 use Rattle.dayfile.specs.Answers.{Stands, OutOfForm, OutOfBounds, OutOfTurn, GoesOn, NoDay, Refused, refused_line, LinesRead, Answered}
 use Rattle.dayfile.specs.declared.expectation.Question.{Question}
@@ -20,13 +19,13 @@ use Rattle.records.specs.declared.Leg.{Leg}
 use Rattle.dayfile.specs.declared.refusal.ReadRefusal.{ReadRefusal}
 use Rattle.dayfile.specs.declared.expectation.Expectation.{Expectation}
 use Rattle.dayfile.specs.declared.expectation.Expectation.TheVariants as due
-use Rattle.dayfile.specs.Expecting.{form_due, subject_due, after_stop, after_leg, Follows, Passes, Judged, day, depot, capacity, drive, travel_budget, serve_budget, demand_budget, stops, stop, leg, end}
+use Rattle.dayfile.specs.Expecting.{form_due, subject_due, Passes, Judged}
 use Rattle.dayfile.proofs.Following.{follows_form}
-use Rattle.dayfile.specs.Walking.{count, line_due}
+use Rattle.dayfile.specs.Walking.{line_due}
 use Rattle.dayfile.proofs.Places.{from, from_step, Range}
-use Rattle.dayfile.proofs.Agreeing.{Agrees, forth, back, Earlier, leg_due}
+use Rattle.dayfile.proofs.Agreeing.{Agrees, forth, back}
 use Rattle.dayfile.proofs.Standing.{leads, in_form_lem, Fits, fits, filled_up, filled-valid, filled_agrees}
-use Rattle.dayfile.proofs.Reading.{Sound, SoundHead, Zeros, ZerosFrom, sound_put, zeros_put, range_put, range_of}
+use Rattle.dayfile.proofs.Reading.{Sound, Zeros, sound_put, zeros_put, range_put, range_of}
 
 -- The lines ls of the text were read into the day d; what is due next is e, on line `number`.
 pub record Reading (text : List ℕ) (e : Expectation) (d : Day) (rest : List ℕ) (number : ℕ) : Type 0 where

@@ -1,15 +1,14 @@
 -- The lines of a day from any place on. Assumes nothing.
-use Rattle.std.proofs.Common.{◌≡◌, ℕ, zero, suc, ◌+◌, ◌-◌, ◌*◌, ◌<◌, ◌≤◌, Bool, true, false, cond, eqb, ltb, ◌⊎◌, List, [], ◌∷◌, ◌++◌, Some, None, sym, refl, ap, ◌∙◌, subst, inl, inr, ⊎_elim, add-one, arith}
+use Rattle.std.proofs.Common.{◌≡◌, ℕ, zero, suc, ◌+◌, ◌-◌, ◌<◌, ◌≤◌, eqb, ltb, List, [], ◌∷◌, ◌++◌, sym, refl, ap, ◌∙◌, subst, ⊎_elim, add-one, arith}
 use Rattle.std.proofs.lemmas.List.{append_assoc}
 use Rattle.std.proofs.lemmas.Bool.{cond-true, cond-false, lt-ltb, le-ltb, eq-eqb, ne_eqb, cases_lt, cases_eq}
 use Rattle.lines.specs.declared.line.Line.{Line}
 use Rattle.lines.specs.declared.line.Line.TheVariants as line
-use Rattle.lines.specs.Forms.{form_of}
-use Rattle.dayfile.specs.Days.{Day, stop_at, leg_at, span, head_lines, stop_line, leg_line, legs_from, day_lines}
+use Rattle.dayfile.specs.Days.{Day, stop_at, leg_at, span, stop_line, leg_line, legs_from, day_lines}
 use Rattle.dayfile.specs.Walking.{count, line_due}
 use Rattle.dayfile.specs.declared.expectation.Expectation.{Expectation}
 use Rattle.dayfile.specs.declared.expectation.Expectation.TheVariants as due
-use Rattle.dayfile.specs.Expecting.{form_due, after_stop, after_row, after_leg, Follows, day, depot, capacity, drive, travel_budget, serve_budget, demand_budget, stops, stop, leg, end}
+use Rattle.dayfile.specs.Expecting.{after_stop, after_row, after_leg, Follows, day, depot, capacity, drive, travel_budget, serve_budget, demand_budget, stops, stop, leg, end}
 
 -- the legs from place i on, and the end
 abbrev pub rows_from : Day → ℕ → ℕ → List Line

@@ -1,26 +1,22 @@
 -- What is known of a text of which some lines were read. Assumes nothing.
-use Rattle.std.proofs.Common.{◌≡◌, ℕ, zero, suc, ◌+◌, ◌-◌, ◌*◌, ◌<◌, ◌≤◌, Bool, true, false, ◌&&◌, leb, ◌⊎◌, List, [], ◌∷◌, ◌++◌, length, get_or, set, replicate, sym, refl, ap, ◌∙◌, subst, inl, inr, ⊎_elim, arith, length-append}
-use Rattle.std.specs.List.{flat_map}
-use Rattle.std.proofs.lemmas.List.{append_assoc, append-nil, append_cancel_left, flat_map_more, get_or-set_other, length-set}
-use Rattle.std.proofs.lemmas.Bool.{and_parts, and_from, leb-true, le-leb, cases_eq, cases_lt}
+use Rattle.std.proofs.Common.{◌≡◌, ℕ, ◌+◌, ◌*◌, ◌<◌, ◌≤◌, true, leb, ◌⊎◌, length, get_or, set, sym, refl, ap, ◌∙◌, subst, inl, inr, ⊎_elim, arith}
+use Rattle.std.proofs.lemmas.List.{get_or-set_other, length-set}
+use Rattle.std.proofs.lemmas.Bool.{and_parts, and_from, leb-true}
 use Rattle.records.specs.declared.Head.{Head}
 use Rattle.records.specs.declared.Stop.{Stop}
-use Rattle.records.specs.declared.Leg.{Leg}
 use Rattle.lines.specs.declared.line.Line.{Line}
 use Rattle.lines.specs.declared.line.Line.TheVariants as line
-use Rattle.lines.specs.Forms.{line_text, form_of, InForm}
-use Rattle.lines.specs.Lines.{BeginsWith, Parsed}
 use Rattle.lines.proofs.Parsing.{kept_by_set}
-use Rattle.dayfile.specs.Bounds.{is_time, is_quantity, is_budget, is_count, sound_stop, sound_leg, within, ordered, subject}
+use Rattle.dayfile.specs.Bounds.{is_time, is_quantity, is_budget, sound_stop, sound_leg, within, ordered, subject}
 use Rattle.records.specs.Records.{no_stop, no_leg, window_only}
-use Rattle.dayfile.specs.Days.{Day, Valid, Clean, stop_at, leg_at, day_lines, day_text}
+use Rattle.dayfile.specs.Days.{Day, stop_at, leg_at}
 use Rattle.dayfile.specs.Storing.{day_of, put}
 use Rattle.dayfile.specs.declared.expectation.Expectation.{Expectation}
 use Rattle.dayfile.specs.declared.expectation.Expectation.TheVariants as due
-use Rattle.dayfile.specs.Expecting.{form_due, subject_due, after_stop, after_leg, Follows, Passes, day, depot, capacity, drive, travel_budget, serve_budget, demand_budget, stops, stop, leg, end}
-use Rattle.dayfile.specs.Walking.{count, line_due}
-use Rattle.dayfile.proofs.Places.{from, from_step, Range, Last, after_leg_lem, after_stop_lem}
-use Rattle.dayfile.proofs.Agreeing.{Agrees, forth, back, Earlier, leg_due, Advances, advances, stop_kept, stop_put, depot_put, leg_kept}
+use Rattle.dayfile.specs.Expecting.{subject_due, after_stop, after_leg, Follows, day, depot, capacity, drive, travel_budget, serve_budget, demand_budget, stops, stop, leg, end}
+use Rattle.dayfile.specs.Walking.{count}
+use Rattle.dayfile.proofs.Places.{Range, after_leg_lem, after_stop_lem}
+use Rattle.dayfile.proofs.Agreeing.{Agrees, Earlier, leg_due, Advances, advances, stop_kept, depot_put, leg_kept}
 
 -- every figure of a day's head is within its bounds, but the count of stops
 pub record SoundHead (h : Head) : Type 0 where

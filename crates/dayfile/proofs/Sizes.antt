@@ -1,6 +1,6 @@
 -- How long the text of a valid day is. Assumes nothing.
-use Rattle.std.proofs.Common.{◌≡◌, ℕ, zero, suc, ◌+◌, ◌*◌, ◌<◌, ◌≤◌, List, [], ◌∷◌, ◌++◌, length, get_or, sym, refl, ap, ◌∙◌, subst, ⊎_elim, suc-mul, arith, length-append}
-use Rattle.std.specs.List.{flat_map, AllByRecursion as All}
+use Rattle.std.proofs.Common.{◌≡◌, ℕ, zero, suc, ◌+◌, ◌*◌, ◌<◌, ◌≤◌, List, [], ◌∷◌, ◌++◌, length, sym, refl, ap, ◌∙◌, subst, ⊎_elim, suc-mul, arith, length-append}
+use Rattle.std.specs.List.{flat_map, AllByRecursion}
 use Rattle.std.proofs.lemmas.List.{append_assoc, append-nil}
 use Rattle.std.proofs.lemmas.Bool.{and_parts, leb-true, cases_eq, cond-true, cond-false, eq-eqb, ne_eqb}
 use Rattle.lines.specs.declared.line.Line.{Line}
@@ -9,7 +9,7 @@ use Rattle.lines.specs.Scan.{holes}
 use Rattle.lines.specs.Forms.{template, form_of, figures, line_text, InForm}
 use Rattle.lines.proofs.Filling.{filled_short}
 use Rattle.lines.proofs.Parsing.{small_figures}
-use Rattle.dayfile.specs.Days.{Day, Valid, span, head_lines, stop_line, leg_line, legs_from, day_lines, day_text, stop_at, leg_at}
+use Rattle.dayfile.specs.Days.{Day, Valid, span, head_lines, stop_line, leg_line, legs_from, day_text, stop_at, leg_at}
 use Rattle.dayfile.specs.Walking.{count, line_due}
 use Rattle.dayfile.specs.declared.expectation.Expectation.TheVariants as due
 use Rattle.dayfile.proofs.Places.{Range}
@@ -39,7 +39,7 @@ size_span f b a (suc n) h =
 size_one : (l : Line) → size (l ∷ []) ≡ length (line_text l)
 size_one l = ap length (append-nil (line_text l))
 
-size_all : (b : ℕ) (ls : List Line) → All (λ l. length (line_text l) ≤ b) ls → size ls ≤ length ls * b
+size_all : (b : ℕ) (ls : List Line) → AllByRecursion (λ l. length (line_text l) ≤ b) ls → size ls ≤ length ls * b
 size_all b [] a = omega arith
 size_all b (l ∷ ls) a = omega (arith, length-append (line_text l) (flat_map line_text ls), a.0, size_all b ls a.1, suc-mul (length ls) b)
 

@@ -1,7 +1,7 @@
 -- Walking over the lines of a day: what makes it valid, and its text written line by line. Assumes nothing.
-use Rattle.std.proofs.Common.{◌≡◌, ℕ, zero, suc, ◌+◌, ◌-◌, ◌*◌, ◌<◌, ◌≤◌, Bool, true, false, cond, ◌&&◌, leb, ◌⊎◌, List, [], ◌∷◌, ◌++◌, length, take, drop, Some, sym, refl, ap, ◌∙◌, subst, inl, inr, ⊎_elim, arith, length-append, length-drop}
+use Rattle.std.proofs.Common.{◌≡◌, ℕ, zero, suc, ◌+◌, ◌-◌, ◌<◌, ◌≤◌, true, cond, leb, List, [], ◌∷◌, ◌++◌, length, take, drop, Some, sym, refl, ap, ◌∙◌, subst, ⊎_elim, arith, length-append, length-drop}
 use borrow.Rule.Slice.PartMut.{put_mid}
-use Rattle.std.specs.List.{flat_map, AllByRecursion as All}
+use Rattle.std.specs.List.{flat_map, AllByRecursion}
 use Rattle.std.proofs.lemmas.List.{take_rest, drop_all, append-nil}
 use Rattle.std.proofs.lemmas.Bool.{and_parts, leb-true, le-leb, cases_eq, cond-true, cond-false, ne_eqb}
 use Rattle.lines.specs.declared.line.Line.{Line}
@@ -10,7 +10,7 @@ use Rattle.lines.specs.Forms.{line_text, form_of}
 use Rattle.records.proofs.Writing.{Sofar, nothing_yet, part_written, all_written, written_size}
 use Rattle.records.proofs.Writing.{fits as fits_in}
 use Rattle.dayfile.specs.Bounds.{within, ordered}
-use Rattle.dayfile.specs.Days.{Day, Valid, span, head_lines, stop_line, leg_line, legs_from, day_lines, day_text, stop_at, leg_at}
+use Rattle.dayfile.specs.Days.{Day, Valid, span, head_lines, stop_line, leg_line, legs_from, day_lines, day_text}
 use Rattle.dayfile.specs.Walking.{count, line_due, Placed}
 use Rattle.dayfile.specs.Storing.{put}
 use Rattle.dayfile.specs.declared.expectation.Expectation.{Expectation}
@@ -26,24 +26,24 @@ use Rattle.dayfile.proofs.Sizes.{day_short}
 abbrev pub Good : Line → Type 0
 Good l = (within l ≡ true) × (ordered l ≡ true)
 
-all_front : {X : Type 0} (P : X → Type 0) (xs ys : List X) → All P (xs ++ ys) → All P xs
+all_front : {X : Type 0} (P : X → Type 0) (xs ys : List X) → AllByRecursion P (xs ++ ys) → AllByRecursion P xs
 all_front P [] ys a = tt
 all_front P (x ∷ xs) ys a = (a.0, all_front P xs ys a.1)
 
-all_rest : {X : Type 0} (P : X → Type 0) (xs ys : List X) → All P (xs ++ ys) → All P ys
+all_rest : {X : Type 0} (P : X → Type 0) (xs ys : List X) → AllByRecursion P (xs ++ ys) → AllByRecursion P ys
 all_rest P [] ys a = a
 all_rest P (x ∷ xs) ys a = all_rest P xs ys a.1
 
-all_span : {X : Type 0} (P : X → Type 0) (f : ℕ → List X) (a n k : ℕ) → All P (span f a n) → a ≤ k → k < a + n → All P (f k)
+all_span : {X : Type 0} (P : X → Type 0) (f : ℕ → List X) (a n k : ℕ) → AllByRecursion P (span f a n) → a ≤ k → k < a + n → AllByRecursion P (f k)
 all_span P f a zero k h p q = absurd (omega arith)
 all_span P f a (suc n) k h p q =
     ⊎_elim
-    (λ e. subst (λ m. All P (f m)) e (all_front P (f a) (span f (suc a) n) h))
+    (λ e. subst (λ m. AllByRecursion P (f m)) e (all_front P (f a) (span f (suc a) n) h))
     (λ e. all_span P f (suc a) n k (all_rest P (f a) (span f (suc a) n) h) (⊎_elim (λ g. absurd (e g)) (λ g. omega arith) (cases_eq a k)) (omega arith))
     (cases_eq a k)
 
 -- a day whose lines are all good is valid
-pub valid_lines : (d : Day) → All Good (day_lines d) → Valid d
+pub valid_lines : (d : Day) → AllByRecursion Good (day_lines d) → Valid d
 valid_lines d a =
     let h = all_front Good (head_lines d) _ a in
     let rest = all_rest Good (head_lines d) (span (stop_line d) 1 (count d) ++ (span (legs_from d) 0 (suc (count d)) ++ line.End ∷ [])) a in
@@ -60,7 +60,7 @@ valid_lines d a =
       stop = λ k p q. let g = (all_span Good (stop_line d) 1 (count d) k ss p (omega arith)).0 in (g.0, leb-true _ _ g.1);
       leg = λ i j p q ne.
           let row = all_span Good (legs_from d) 0 (suc (count d)) i ls (omega arith) (omega arith) in
-          let g = (subst (All Good) (cond-false _ _ _ (ne_eqb i j ne)) (all_span Good (leg_line d i) 0 (suc (count d)) j row (omega arith) (omega arith))).0 in
+          let g = (subst (AllByRecursion Good) (cond-false _ _ _ (ne_eqb i j ne)) (all_span Good (leg_line d i) 0 (suc (count d)) j row (omega arith) (omega arith))).0 in
           (and_parts _ _ g.0).1;
     }
 
@@ -108,13 +108,13 @@ left_falls d f is r = omega (arith, ap length (step_from f d is r))
 -- the lines before a place are good: if those from it on are, too, then the day is valid
 pub record Checking (e : Expectation) (d : Day) : Type 0 where
   pub range : Range e d
-  pub rest : All Good (from d e) → Valid d
+  pub rest : AllByRecursion Good (from d e) → Valid d
 
 pub checking_first : (d : Day) → Checking due.Day d
 checking_first d = record { range = tt; rest = valid_lines d }
 
 pub checking_next : {e : Expectation} {l : Line} {next : Expectation} (d : Day) → Checking e d → Follows e l next → l ≡ line_due d e → Good l → Checking next d
-checking_next d c f is g = record { range = range_next f d is g.0 c.range; rest = λ a. c.rest (subst (All Good) (sym (step_from f d is c.range)) (g, a)) }
+checking_next d c f is g = record { range = range_next f d is g.0 c.range; rest = λ a. c.rest (subst (AllByRecursion Good) (sym (step_from f d is c.range)) (g, a)) }
 
 pub checking_all : (e : Expectation) (d : Day) → e ≡ due.Nothing → Checking e d → Valid d
 checking_all e d is c = (subst (λ q. Checking q d) is c).rest tt

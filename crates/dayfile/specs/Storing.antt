@@ -1,5 +1,5 @@
 -- Where the figures of a line go in a day. Assumes nothing.
-use Rattle.std.specs.Prelude.{ℕ, ◌+◌, ◌*◌, ◌≤◌, List, slice_set}
+use Rattle.std.specs.Prelude.{◌+◌, ◌*◌, ◌≤◌, List, slice_set}
 use Rattle.records.specs.declared.Head.{Head}
 use Rattle.records.specs.declared.Stop.{Stop}
 use Rattle.records.specs.declared.Leg.{Leg}

@@ -1,10 +1,10 @@
 -- The driving time keeps the laws: it only grows with the driving time before. Assumes nothing.
-use Rattle.std.specs.Prelude.{◌≡◌, ℕ, ◌≤◌, max, Bool, true, false, cond, ◌&&◌, leb, List, [], ◌∷◌, ◌==◌, nat_le, refl}
+use Rattle.std.specs.Prelude.{◌≡◌, ℕ, ◌≤◌, max, Bool, true, false, cond, leb, List, [], ◌∷◌, ◌==◌, nat_le, refl}
 use Rattle.std.proofs.Common.{ap, ◌∙◌, arith}
 use Rattle.std.proofs.lemmas.Bool.Decides.{nat_tests}
 use Rattle.records.specs.declared.step.Step.{Step}
 use Rattle.resource.specs.Rows.{Lawful, run}
-use Rattle.words.specs.Words.{ceiling, greater, sound}
+use Rattle.words.specs.Words.{greater, sound}
 use Rattle.words.proofs.Joins.{Joinable, recursion_lawful, get_d_greater, leb_max}
 use Rattle.words.proofs.Routes.{run_throughout}
 use Rattle.duty.specs.Driving.{greatest_limit, driven_of, driven, after_stop, within_limit, driving, rests_in_time}

@@ -1,5 +1,5 @@
 -- Marks taken together, and the scenarios of a pile by the days of its outermost layer. Assumes nothing.
-use Rattle.std.proofs.Common.{◌≡◌, ℕ, zero, suc, ◌+◌, ◌/◌, ◌%◌, ◌<◌, Bool, true, false, cond, ◌&&◌, List, [], ◌∷◌, ◌++◌, map, length, sym, refl, ap, ◌∙◌, ap₂, mod-lt, div-add-mod', arith}
+use Rattle.std.proofs.Common.{◌≡◌, ℕ, zero, suc, ◌/◌, ◌%◌, ◌<◌, Bool, true, false, cond, ◌&&◌, List, [], ◌∷◌, ◌++◌, map, length, sym, refl, ap, ◌∙◌, ap₂, mod-lt, div-add-mod', arith}
 use lib.Arith.{bin_ind}
 use lib.Bits.{bit_or, or_shr, or_mod, or_zero_r}
 use lib.ListN.{length-map}

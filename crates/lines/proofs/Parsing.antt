@@ -1,8 +1,8 @@
 -- A text is read as a line exactly where it begins with that line's text. Assumes nothing.
-use Rattle.std.proofs.Common.{◌≡◌, ℕ, zero, suc, ◌+◌, ◌<◌, ◌≤◌, Bool, true, false, cond, not, ◌&&◌, eqb, ◌⊎◌, List, [], ◌∷◌, ◌++◌, length, get_or, take, drop, set, replicate, is_some, Some, None, decimal, Option, sym, refl, ap, ◌∙◌, subst, ⊎_elim, arith, length-set}
+use Rattle.std.proofs.Common.{◌≡◌, ℕ, zero, suc, ◌+◌, ◌<◌, ◌≤◌, Bool, true, false, cond, not, ◌&&◌, eqb, List, [], ◌∷◌, ◌++◌, length, get_or, take, drop, set, replicate, is_some, Some, None, decimal, Option, sym, refl, ap, ◌∙◌, subst, ⊎_elim, arith, length-set}
 use Rattle.std.specs.Char.{is_ascii_digit}
 use Rattle.std.specs.Option.{option_map}
-use Rattle.std.specs.List.{AllByRecursion as All}
+use Rattle.std.specs.List.{AllByRecursion}
 use Rattle.std.proofs.lemmas.List.{append_assoc, get_or-set_same, get_or-set_other, drop_more, at_drop_all}
 use Rattle.std.proofs.lemmas.Bool.{cases_Bool, and_parts, not-true, cond-true, cond-false, eqb-true, eq-eqb}
 use Rattle.lines.specs.declared.line.Form.{Form}
@@ -11,7 +11,7 @@ use Rattle.lines.specs.declared.line.Line.{Line}
 use Rattle.lines.specs.declared.line.Line.TheVariants as line
 use Rattle.lines.specs.Numerals.{number_at}
 use Rattle.lines.specs.Scan.{holes, after_byte, and_then, scanned}
-use Rattle.lines.specs.Forms.{template, place, filled, form_of, figures, line_text, InForm}
+use Rattle.lines.specs.Forms.{template, filled, figures, line_text, InForm}
 use Rattle.lines.specs.Lines.{line_of, forms, or_else, as_form, first_line, BeginsWith, Parsed}
 use Rattle.lines.proofs.Digits.{number_sound, number_complete}
 use Rattle.lines.proofs.Filling.{at_hole, at_byte, few_holes}
@@ -185,7 +185,7 @@ first_sound (f ∷ fs) t l r e = go (as_form f t) refl e (first_sound fs t l r)
     go None is e more = more e
     go (Some found) is e more = as_form-sound f t l r (is ∙ e)
 
-pub small_figures : (ns : List ℕ) → All (λ n. n < 1000000) ns → Small ns
+pub small_figures : (ns : List ℕ) → AllByRecursion (λ n. n < 1000000) ns → Small ns
 small_figures [] a i = omega arith
 small_figures (n ∷ ns) a zero = a.0
 small_figures (n ∷ ns) a (suc i) = small_figures ns a.1 i

@@ -1,6 +1,6 @@
 -- The forms that a line of a day file can have, each as a template, and the text of a line. Assumes nothing.
-use Rattle.std.specs.Prelude.{◌≡◌, ℕ, suc, ◌<◌, Bool, true, false, cond, List, [], ◌∷◌, ◌++◌, codes, decimal, ◌==◌, slice_index}
-use Rattle.std.specs.List.{AllByRecursion as All}
+use Rattle.std.specs.Prelude.{ℕ, suc, ◌<◌, Bool, true, false, List, [], ◌∷◌, ◌++◌, codes, decimal, ◌==◌, slice_index}
+use Rattle.std.specs.List.{AllByRecursion}
 use Rattle.lines.specs.declared.line.Form.{Form}
 use Rattle.lines.specs.declared.line.Form.TheVariants.{Day, Depot, Capacity, Drive, TravelBudget, ServeBudget, DemandBudget, Stops, Stop, Leg, End}
 use Rattle.lines.specs.declared.line.Line.{Line}
@@ -67,4 +67,4 @@ line_text l = filled (template (form_of l)) 0 (figures l)
 
 -- every number of the line has at most six digits
 abbrev pub InForm : Line → Type 0
-InForm l = All (λ n. n < 1000000) (figures l)
+InForm l = AllByRecursion (λ n. n < 1000000) (figures l)

@@ -1,6 +1,5 @@
 -- How a text is compared with a template, byte by byte: a step on the way to the text of a line. Assumes nothing.
-use Rattle.std.specs.Prelude.{ℕ, suc, Bool, true, false, cond, not, ◌&&◌, List, [], ◌∷◌, replicate, Some, None, Option, ◌==◌, slice_set}
-use Rattle.std.specs.Char.{is_ascii_digit}
+use Rattle.std.specs.Prelude.{ℕ, suc, cond, List, [], ◌∷◌, Some, None, Option, ◌==◌, slice_set}
 use Rattle.lines.specs.Numerals.{number_at}
 
 -- how many numbers a template asks for

@@ -1,5 +1,5 @@
 -- What is picked up and the peak keep the laws: they only grow with those before. Assumes nothing.
-use Rattle.std.specs.Prelude.{◌≡◌, ℕ, ◌≤◌, max, Bool, true, ◌&&◌, leb, List, [], ◌∷◌, length, nat_le, refl}
+use Rattle.std.specs.Prelude.{◌≡◌, ℕ, ◌≤◌, max, true, leb, List, [], ◌∷◌, length, nat_le, refl}
 use Rattle.std.proofs.Common.{ap, ◌∙◌, arith, leb-true, le-leb}
 use Rattle.std.proofs.lemmas.Bool.{and_from}
 use Rattle.records.specs.declared.step.Step.{Step}

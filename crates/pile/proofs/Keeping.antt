@@ -1,5 +1,5 @@
 -- What the product's pile accepts, from its fields to the day's head. Assumes nothing.
-use Rattle.std.proofs.Common.{◌≡◌, ℕ, ◌≤◌, Bool, ◌&&◌, List, [], ◌∷◌, ◌++◌, sym, refl, ap, ◌∙◌}
+use Rattle.std.proofs.Common.{◌≡◌, ℕ, ◌≤◌, ◌&&◌, List, [], ◌∷◌, ◌++◌, ◌∙◌}
 use Rattle.records.specs.declared.Head.{Head}
 use Rattle.records.specs.declared.step.Step.{Step}
 use Rattle.resource.specs.Scenarios.{Accepts, Budget}

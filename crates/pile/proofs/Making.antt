@@ -1,7 +1,6 @@
 -- What the making of the product's layers refuses: their classes are one bit each. Assumes nothing.
-use Rattle.std.proofs.Common.{◌≡◌, ℕ, Bool, true, false, cond, ◌&&◌, leb, Some, None, Ok, Err, Option, sym, refl, ap, ◌∙◌, ⊎_elim, arith}
+use Rattle.std.proofs.Common.{◌≡◌, ℕ, cond, leb, Some, None, Ok, refl, ◌∙◌, ⊎_elim, arith}
 use lib.Count.{ones}
-use Rattle.resource.specs.declared.refusal.Refusal.{Refusal}
 use Rattle.resource.specs.declared.refusal.Refusal.TheVariants.{BudgetTooGreat}
 use Rattle.std.proofs.lemmas.Bool.{cases_Bool, cond-true, cond-false}
 use Rattle.words.specs.Making.{figure_answer}

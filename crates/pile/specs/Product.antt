@@ -1,5 +1,5 @@
 -- The product's pile: travel outermost, then serve, then demand, over time beside load and duty. Assumes nothing.
-use Rattle.std.specs.Prelude.{◌≡◌, ℕ, Bool, cond, ◌&&◌, List, [], ◌∷◌, Some, None, Option, nat_le}
+use Rattle.std.specs.Prelude.{◌≡◌, ℕ, cond, ◌&&◌, List, [], ◌∷◌, Some, None, Option, nat_le}
 use Rattle.records.specs.declared.Head.{Head}
 use Rattle.resource.specs.declared.refusal.Refusal.{Refusal}
 use Rattle.resource.specs.declared.refusal.Refusal.TheVariants.{FigureTooGreat, BudgetTooGreat}

@@ -1,9 +1,8 @@
 -- Worked figures: small routes of one day, each with one figure changed, and what is said of them. Assumes nothing.
-use Rattle.std.specs.Prelude.{◌≡◌, ℕ, Bool, List, [], ◌∷◌, ◌++◌, length, set, replicate, Some, None, Option}
+use Rattle.std.specs.Prelude.{◌≡◌, ℕ, List, [], ◌∷◌, ◌++◌, length, replicate, Some, None, Option}
 use Rattle.records.specs.declared.Head.{Head}
 use Rattle.records.specs.declared.Stop.{Stop}
 use Rattle.records.specs.declared.Leg.{Leg}
-use Rattle.records.specs.declared.step.Step.{Step}
 use Rattle.records.specs.Records.{no_leg, window_only}
 use Rattle.records.specs.Steps.{steps_of}
 use Rattle.resource.specs.Rows.{run}

@@ -1,5 +1,5 @@
 -- What the calls of a resource answer, and what their rows and lists then hold. Assumes nothing.
-use Rattle.std.specs.Prelude.{ℕ, ◌*◌, Bool, true, false, cond, ◌&&◌, List, [], ◌∷◌, ◌++◌, length, drop, is_some, Some, None, Ok, Err, Option, Result, nat_le}
+use Rattle.std.specs.Prelude.{ℕ, ◌*◌, Bool, cond, ◌&&◌, List, ◌++◌, length, drop, Some, None, Ok, Err, Option, Result, nat_le}
 use Rattle.resource.specs.declared.refusal.Refusal.{Refusal}
 use Rattle.resource.specs.declared.refusal.Refusal.TheVariants.{TooWide, FigureTooGreat, BudgetTooGreat, ClassNotOneBit, TooManySteps, OtherWidth, TooLittleRoom}
 use Rattle.resource.specs.Rows.{widest}

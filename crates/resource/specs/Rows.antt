@@ -1,5 +1,5 @@
 -- Rows, what a route's steps make of one, and the laws that a resource keeps. Assumes nothing.
-use Rattle.std.specs.Prelude.{◌≡◌, ℕ, ◌≤◌, Bool, true, ◌&&◌, List, [], ◌∷◌, length}
+use Rattle.std.specs.Prelude.{◌≡◌, ℕ, Bool, true, ◌&&◌, List, [], ◌∷◌, length}
 use Rattle.records.specs.declared.step.Step.{Step}
 
 -- an extension: what a step with its marks makes of a row

@@ -1,5 +1,5 @@
 -- Scenarios: which steps the budget layers of a pile mark, in the order in which days are compared. Assumes nothing.
-use Rattle.std.specs.Prelude.{◌≡◌, ℕ, zero, suc, Bool, true, false, cond, not, ◌&&◌, List, [], ◌∷◌, ◌++◌, map, length, replicate, Some, None, Option}
+use Rattle.std.specs.Prelude.{ℕ, zero, suc, Bool, true, false, cond, ◌&&◌, List, [], ◌∷◌, ◌++◌, map, length, replicate, Some, None, Option}
 use Rattle.std.specs.List.{flat_map}
 use Rattle.records.specs.declared.step.Step.{Step}
 use Rattle.resource.specs.Marks.{union}

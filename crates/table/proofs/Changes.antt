@@ -1,6 +1,6 @@
 -- What a change makes of a plan's routes, route by route and stop by stop. Assumes nothing.
 use Rattle.std.proofs.Common.{◌≡◌, ℕ, ◌+◌, ◌-◌, ◌<◌, ◌≤◌, true, false, List, [], length, get_or, sym, ap, ◌∙◌, subst, ⊎_elim, arith}
-use Rattle.std.specs.List.{AllByRecursion as All}
+use Rattle.std.specs.List.{AllByRecursion}
 use Rattle.std.proofs.ByRecursion.{All-get_or, All-from_get_or}
 use Rattle.std.proofs.lemmas.List.{length-set, length-map, get_or-set_same, get_or-set_other}
 use Rattle.std.proofs.lemmas.Bool.{both_ways, cases_Bool, cases_eq}
@@ -103,10 +103,10 @@ abbrev pub EveryRoute : (List ℕ → Type 0) → Routes → Type 0
 EveryRoute P rs = (q : ℕ) → 1 ≤ q → q ≤ length rs → P (route_of rs q)
 
 module _ (P : List ℕ → Type 0) where
-  pub every_from_all : (rs : Routes) → All P rs → EveryRoute P rs
+  pub every_from_all : (rs : Routes) → AllByRecursion P rs → EveryRoute P rs
   every_from_all rs a q low high = All-get_or P rs (q - 1) [] (omega arith) a
 
-  pub all_from_every : (rs : Routes) → EveryRoute P rs → All P rs
+  pub all_from_every : (rs : Routes) → EveryRoute P rs → AllByRecursion P rs
   all_from_every rs every = All-from_get_or P rs [] (λ i h. let at : i + 1 - 1 ≡ i = omega arith in subst (λ j. P (get_or rs j [])) at (every (i + 1) (omega arith) (omega arith)))
 
   pub every-placed : (x r k : ℕ) (rs : Routes) → 1 ≤ r → r ≤ length rs → EveryRoute P rs → P (put_in x k (route_of rs r)) → EveryRoute P (placed x r k rs)

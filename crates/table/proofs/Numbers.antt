@@ -1,7 +1,7 @@
 -- Lists of numbers: what stands in them, a number put in or taken out, and how long they can be. Assumes nothing.
 use Rattle.std.proofs.Common.{◌≡◌, ℕ, zero, suc, ◌+◌, ◌<◌, ◌≤◌, true, false, cond, not, ◌||◌, eqb, List, [], ◌∷◌, ◌++◌, length, take, drop, sym, refl, ap, ◌∙◌, ⊎_elim, arith}
 use mathlib.Core.Bool.{or_assoc, or_comm}
-use Rattle.std.specs.List.{AllByRecursion as All}
+use Rattle.std.specs.List.{AllByRecursion}
 use Rattle.std.proofs.lemmas.List.{take-append-drop}
 use Rattle.std.proofs.lemmas.Bool.{and_parts, and_from, or_parts, or_from, not-true, not_from_false, leb-true, eqb-true, eqb-false, ne_eqb, cond-true, cond-false, cond_both, cases_eq}
 use Rattle.records.specs.Limits.{most_stops}
@@ -96,19 +96,19 @@ length-take_out x (y ∷ ys) d =
     (λ e. omega (arith, ap length (take_out_absent x ys (ap (λ z. holds z ys) (eqb-true x y e) ∙ not-true _ p.0))))
     (λ e. omega (arith, length-take_out x ys p.1))
 
-upto_take_out : (n : ℕ) (xs : List ℕ) → All (λ k. (1 ≤ k) × (k ≤ suc n)) xs → All (λ k. (1 ≤ k) × (k ≤ n)) (take_out (suc n) xs)
+upto_take_out : (n : ℕ) (xs : List ℕ) → AllByRecursion (λ k. (1 ≤ k) × (k ≤ suc n)) xs → AllByRecursion (λ k. (1 ≤ k) × (k ≤ n)) (take_out (suc n) xs)
 upto_take_out n [] a = tt
 upto_take_out n (x ∷ xs) a =
     let rest = upto_take_out n xs a.1 in
-    cond_both (eqb (suc n) x) _ _ (All (λ k. (1 ≤ k) × (k ≤ n))) (λ e. rest) (λ e. ((a.0.0, omega (arith, eqb-false (suc n) x e, a.0.1)), rest))
+    cond_both (eqb (suc n) x) _ _ (AllByRecursion (λ k. (1 ≤ k) × (k ≤ n))) (λ e. rest) (λ e. ((a.0.0, omega (arith, eqb-false (suc n) x e, a.0.1)), rest))
 
 -- numbers from 1 to n of which none stands twice are at most n
-pub at_most : (n : ℕ) (xs : List ℕ) → distinct xs ≡ true → All (λ k. (1 ≤ k) × (k ≤ n)) xs → length xs ≤ n
+pub at_most : (n : ℕ) (xs : List ℕ) → distinct xs ≡ true → AllByRecursion (λ k. (1 ≤ k) × (k ≤ n)) xs → length xs ≤ n
 at_most zero [] d a = omega arith
 at_most zero (x ∷ xs) d a = absurd (omega (arith, a.0.0, a.0.1))
 at_most (suc n) xs d a = omega (arith, length-take_out (suc n) xs d, at_most n (take_out (suc n) xs) (distinct-take_out (suc n) xs d) (upto_take_out n xs a))
 
-all_stops : (xs : List ℕ) → are_stops xs ≡ true → All (λ k. (1 ≤ k) × (k ≤ most_stops)) xs
+all_stops : (xs : List ℕ) → are_stops xs ≡ true → AllByRecursion (λ k. (1 ≤ k) × (k ≤ most_stops)) xs
 all_stops [] a = tt
 all_stops (x ∷ xs) a =
     let p = and_parts _ _ a in

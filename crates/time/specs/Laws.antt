@@ -1,6 +1,6 @@
 -- The hour of leaving keeps the laws: it only grows with the hour before. Assumes nothing.
 use Rattle.std.specs.Prelude.{◌≡◌, ℕ, ◌≤◌, max, Bool, true, ◌&&◌, List, [], ◌∷◌, nat_le, refl}
-use Rattle.std.proofs.Common.{sym, ap, ◌∙◌, arith}
+use Rattle.std.proofs.Common.{ap, ◌∙◌, arith}
 use Rattle.std.proofs.lemmas.Bool.{and_parts, le-leb}
 use Rattle.records.specs.declared.step.Step.{Step}
 use Rattle.resource.specs.Rows.{Lawful, run}

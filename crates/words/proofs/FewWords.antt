@@ -1,6 +1,5 @@
 -- Rows of one and of two words. Assumes nothing.
-use Rattle.std.proofs.Common.{◌≡◌, ℕ, ◌≤◌, eqb, List, [], ◌∷◌, length, get_or, Ok, Result, sym, refl, ap, ◌∙◌, arith, eq-eqb}
-use Rattle.resource.specs.declared.refusal.Refusal.{Refusal}
+use Rattle.std.proofs.Common.{◌≡◌, ℕ, ◌≤◌, eqb, List, [], ◌∷◌, length, get_or, Ok, sym, refl, ap, ◌∙◌, arith, eq-eqb}
 use Rattle.resource.specs.Answers.{row_answer}
 use Rattle.resource.specs.Rows.{widest}
 use Rattle.resource.proofs.Runs.{row_granted}

@@ -1,10 +1,10 @@
 -- The laws of a resource that joins rows by the greater word at each place and judges them by the ceiling. Assumes nothing.
-use Rattle.std.proofs.Common.{◌≡◌, ℕ, zero, suc, ◌≤◌, max, Bool, true, false, cond, ◌&&◌, leb, List, [], ◌∷◌, length, get_or, replicate, sym, refl, ap, ◌∙◌, arith, leb-true}
+use Rattle.std.proofs.Common.{◌≡◌, ℕ, zero, suc, ◌≤◌, max, Bool, true, false, ◌&&◌, leb, List, [], ◌∷◌, length, get_or, sym, refl, ap, ◌∙◌, arith, leb-true}
 use Rattle.std.proofs.lemmas.List.{length-replicate}
-use Rattle.std.proofs.lemmas.Bool.{and_parts, cases_Bool}
+use Rattle.std.proofs.lemmas.Bool.{and_parts}
 use Rattle.std.proofs.lemmas.Bool.Decides.{nat_tests}
 use Rattle.records.specs.declared.step.Step.{Step}
-use Rattle.resource.specs.Rows.{Extension, Lawful}
+use Rattle.resource.specs.Rows.{Lawful}
 use Rattle.words.specs.Words.{ceiling, broken_word, broken, greater, sound, unless_broken, recursion}
 
 pub greater_associative : (xs ys zs : List ℕ) → greater (greater xs ys) zs ≡ greater xs (greater ys zs)

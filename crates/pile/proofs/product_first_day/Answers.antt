@@ -1,4 +1,4 @@
-use Rattle.std.proofs.Common.{◌≡◌, length, take, is_some, ap, ◌∙◌}
+use Rattle.std.proofs.Common.{length, take, is_some, ◌∙◌}
 use Rattle.resource.specs.Answers.{day_answer, day_list}
 use Rattle.resource.specs.Scenarios.{first_day}
 use Rattle.pile.proofs.Keeping.{accepts_all, the_layers, the_width}

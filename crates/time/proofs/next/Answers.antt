@@ -1,4 +1,4 @@
-use Rattle.std.proofs.Common.{◌≡◌, [], ◌∷◌, length, lit≤, rules}
+use Rattle.std.proofs.Common.{◌≡◌, length, lit≤, rules}
 use Rattle.words.proofs.FewWords.{one_word, of_words}
 use Rattle.time.specs.Hours.{hours}
 use Rattle.time.proofs.next.Goals as goal

@@ -1,7 +1,5 @@
-use Rattle.std.proofs.Common.{◌≡◌, ℕ, sym, ap, ◌∙◌, arith}
+use Rattle.std.proofs.Common.{◌≡◌, sym, ap, ◌∙◌}
 use Rattle.std.proofs.lemmas.Bool.{both_ways}
-use Rattle.dayfile.specs.Bounds.{subject}
-use Rattle.dayfile.specs.Expecting.{subject_due}
 use Rattle.dayfile.proofs.Following.{follows_form}
 use Rattle.dayfile.proofs.judge.judge.Goals as goal
 use Rattle.dayfile.proofs.judge.judge.Goals.{else-a-c-via-then-a-c+then-b-d+else-is_ordered, else-a-c-via-then-a-c+else-b-d, else-a-c-via-else-a-c}

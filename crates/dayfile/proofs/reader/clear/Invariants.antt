@@ -1,4 +1,4 @@
-use Rattle.std.proofs.Common.{◌≡◌, ◌≤◌, length, take, replicate}
+use Rattle.std.proofs.Common.{◌≡◌, take, replicate}
 use Rattle.dayfile.proofs.reader.clear.Given as goal
 
 abbrev pub invariant-loop-record : goal.invariant-loop-record

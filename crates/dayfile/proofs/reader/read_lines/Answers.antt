@@ -1,9 +1,8 @@
-use Rattle.std.proofs.Common.{◌≡◌, ◌+◌, ◌<◌, ◌≤◌, length, replicate, Some, sym, refl, ap, ◌∙◌, subst, arith, length-append}
+use Rattle.std.proofs.Common.{◌+◌, ◌<◌, length, replicate, sym, refl, ap, ◌∙◌, subst, arith, length-append}
 use Rattle.std.proofs.lemmas.Bool.{eqb-true, eqb-false}
-use Rattle.lines.specs.Lines.{Parsed}
 use Rattle.lines.specs.Forms.{line_text}
 use Rattle.dayfile.specs.Answers.{NoDay, Refused}
-use Rattle.records.specs.Records.{no_head, no_stop, no_leg}
+use Rattle.records.specs.Records.{no_head, no_stop}
 use Rattle.dayfile.specs.Storing.{day_of}
 use Rattle.dayfile.specs.declared.expectation.Expectation.TheVariants as due
 use Rattle.dayfile.proofs.Following.{some_bytes, nothing_due, something_due, storable}

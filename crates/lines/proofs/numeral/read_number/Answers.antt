@@ -1,7 +1,7 @@
-use Rattle.std.proofs.Common.{◌≡◌, ℕ, Bool, true, cond, length, take, drop, Some, None, sym, refl, ap, ◌∙◌}
+use Rattle.std.proofs.Common.{◌≡◌, cond, take, Some, None, sym, refl, ap, ◌∙◌}
 use Rattle.std.specs.Str.{all_ascii_digits}
 use Rattle.std.proofs.lemmas.Bool.{and_parts, leb-true}
-use Rattle.lines.specs.Numerals.{digit_run, in_form, number_at, read_on}
+use Rattle.lines.specs.Numerals.{in_form, number_at, read_on}
 use Rattle.lines.proofs.Digits.{digits_of_run, number_told}
 use Rattle.lines.proofs.numeral.read_number.Goals as goal
 use Rattle.lines.proofs.numeral.read_number.Goals.{After-in_form}

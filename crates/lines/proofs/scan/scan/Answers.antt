@@ -1,4 +1,4 @@
-use Rattle.std.proofs.Common.{sym, refl, ap, ◌∙◌, arith}
+use Rattle.std.proofs.Common.{sym, ◌∙◌, arith}
 use Rattle.std.proofs.lemmas.List.{at_drop_all}
 use Rattle.lines.specs.Scan.{scanned}
 use Rattle.lines.proofs.Scanning.{no_number, a_number, other_byte, same_byte, holes_at_hole, holes_at_byte}

@@ -1,4 +1,3 @@
-use Rattle.std.proofs.Common.{◌≡◌}
 use Rattle.pair.proofs.Calls.{split_tells, along, both_answer, both_row}
 use Rattle.pair.proofs.PairUnlayered.advance.Goals as goal
 
