@@ -1,5 +1,5 @@
 -- The driving time keeps the laws: it only grows with the driving time before. Assumes nothing.
-use Rattle.std.specs.Prelude.{◌≡◌, ℕ, ◌≤◌, max, Bool, true, false, cond, leb, List, [], ◌∷◌, ◌==◌, nat_le, refl}
+use Rattle.std.specs.Prelude.{◌≡◌, ℕ, ◌≤◌, max, Bool, true, false, cond, List, [], ◌∷◌, ◌==◌, nat_le, refl}
 use Rattle.std.proofs.Common.{ap, ◌∙◌, arith}
 use Rattle.std.proofs.lemmas.Bool.Decides.{nat_tests}
 use Rattle.records.specs.declared.step.Step.{Step}
@@ -27,7 +27,7 @@ joinable : (limit : ℕ) → limit ≤ greatest_limit → Joinable 1 (λ s m row
 joinable limit bounded = record {
   next_width = λ s m x. refl;
   next_sound = λ s m x. after_stop-sound s m (driven_of x) limit bounded;
-  admits_join = λ s m x y e. ap (λ before. leb (driven s m before) limit) (get_d_greater x y 0 e) ∙ ap (λ n. leb n limit) (driven-join s m (driven_of x) (driven_of y)) ∙ leb_max (driven s m (driven_of x)) (driven s m (driven_of y)) limit;
+  admits_join = λ s m x y e. ap (λ before. nat_le (driven s m before) limit) (get_d_greater x y 0 e) ∙ ap (λ n. nat_le n limit) (driven-join s m (driven_of x) (driven_of y)) ∙ leb_max (driven s m (driven_of x)) (driven s m (driven_of y)) limit;
   next_join = λ s m x y e. ap (λ before. after_stop s m before ∷ []) (get_d_greater x y 0 e) ∙ ap (λ n. n ∷ []) (after_stop-join s m (driven_of x) (driven_of y));
 }
 

@@ -3,7 +3,7 @@
 #![tactic(auto)]
 
 ghost use Rattle.std.specs.Prelude.{◌≡◌, ◌≤◌, [], ◌∷◌, length, ◌==◌};
-ghost use Rattle.std.proofs.Common.{sym, rules, arith};
+ghost use Rattle.std.proofs.Common.{sym, rules};
 ghost use Rattle.resource.specs.Answers.{row_answer};
 ghost use Rattle.words.specs.Days.{own_verdict};
 ghost use Rattle.words.specs.Making.{figure_answer, figure_made};
@@ -122,7 +122,7 @@ impl Resource for Duty {
 
     ghost accepts = { λ d. own_verdict sound (driving d.limit) (0 ∷ []) };
 
-    ghost bounded = { first_of (Prim.search rules, Prim.grind (arith, Self.row.coded.inj)) };
+    ghost bounded = { Prim.search rules };
 
     ghost lawful = { λ d narrow. driving_lawful d.limit d.bounded };
 

@@ -4,7 +4,7 @@
 #![tactic(auto)]
 
 ghost use Rattle.std.specs.Prelude.{◌≡◌, ℕ, ◌≤◌, true, ◌∷◌, Some, None, MatchResult};
-ghost use Rattle.std.proofs.Common.{sym, subst, rules, arith};
+ghost use Rattle.std.proofs.Common.{sym, subst, rules};
 ghost use Rattle.layered.specs.Layered.{layered_width, layered_start, layered_extension, layered_join, layered_verdict};
 ghost use Rattle.layer.specs.Making.{one_bit, greatest, making};
 ghost use Rattle.resource.specs.Rows.{Lawful};
@@ -70,7 +70,7 @@ impl<B: Resource> Resource for Layer<B> {
 
     ghost accepts = { λ l. B.Resource.accepts l.below };
 
-    ghost bounded = { first_of (Prim.search rules, Prim.grind (arith, Self.row.coded.inj)) };
+    ghost bounded = { Prim.search rules };
 
     ghost lawful = { λ r narrow.
         let b = r.below in

@@ -1,6 +1,6 @@
 -- What a van has picked up, and the peak of what it carries: what a step with its marks makes of them. A van sets out with
 -- all that it is to deliver, so each delivery raises what it carried at every stop before. Assumes nothing.
-use Rattle.std.specs.Prelude.{ℕ, ◌+◌, max, Bool, true, ◌&&◌, leb, List, [], ◌∷◌, nat_le, slice_index}
+use Rattle.std.specs.Prelude.{ℕ, ◌+◌, max, Bool, true, ◌&&◌, List, [], ◌∷◌, nat_le, slice_index}
 use Rattle.records.specs.declared.step.Step.{Step}
 use Rattle.resource.specs.Rows.{Extension}
 use Rattle.resource.specs.Scenarios.{Accepts}
@@ -29,7 +29,7 @@ peak s m picked_before before = max (before + deliver s m) (picked s m picked_be
 -- the row, broken where the peak is above the capacity
 abbrev pub carrying : ℕ → Extension
 carrying capacity =
-    recursion (λ s m row. leb (peak s m (picked_of row) (peak_of row)) capacity)
+    recursion (λ s m row. nat_le (peak s m (picked_of row) (peak_of row)) capacity)
     (λ s m row. picked s m (picked_of row) ∷ (peak s m (picked_of row) (peak_of row) ∷ []))
 
 -- all that steps with their marks have to deliver

@@ -1,5 +1,5 @@
 -- What is picked up and the peak keep the laws: they only grow with those before. Assumes nothing.
-use Rattle.std.specs.Prelude.{◌≡◌, ℕ, ◌≤◌, max, true, leb, List, [], ◌∷◌, length, nat_le, refl}
+use Rattle.std.specs.Prelude.{◌≡◌, ℕ, ◌≤◌, max, true, List, [], ◌∷◌, length, nat_le, refl}
 use Rattle.std.proofs.Common.{ap, ◌∙◌, arith, leb-true, le-leb}
 use Rattle.std.proofs.lemmas.Bool.{and_from}
 use Rattle.records.specs.declared.step.Step.{Step}
@@ -25,11 +25,11 @@ within_sound s m a u capacity bounded h =
     let high : peak s m a u ≤ ceiling = omega arith in
     and_from _ _ (le-leb (picked s m a) ceiling low) (and_from _ _ (le-leb (peak s m a u) ceiling high) refl)
 
-pub joinable : (capacity : ℕ) → capacity ≤ greatest_capacity → Joinable 2 (λ s m row. leb (peak s m (picked_of row) (peak_of row)) capacity) (λ s m row. picked s m (picked_of row) ∷ (peak s m (picked_of row) (peak_of row) ∷ []))
+pub joinable : (capacity : ℕ) → capacity ≤ greatest_capacity → Joinable 2 (λ s m row. nat_le (peak s m (picked_of row) (peak_of row)) capacity) (λ s m row. picked s m (picked_of row) ∷ (peak s m (picked_of row) (peak_of row) ∷ []))
 joinable capacity bounded = record {
   next_width = λ s m x. refl;
   next_sound = λ s m x. within_sound s m (picked_of x) (peak_of x) capacity bounded;
-  admits_join = λ s m x y e. ap (λ n. leb n capacity) (peaks s m x y e) ∙ leb_max (peak s m (picked_of x) (peak_of x)) (peak s m (picked_of y) (peak_of y)) capacity;
+  admits_join = λ s m x y e. ap (λ n. nat_le n capacity) (peaks s m x y e) ∙ leb_max (peak s m (picked_of x) (peak_of x)) (peak s m (picked_of y) (peak_of y)) capacity;
   next_join = λ s m x y e. ap (λ n. picked s m n ∷ (peak s m (picked_of (greater x y)) (peak_of (greater x y)) ∷ [])) (get_d_greater x y 0 e)
       ∙ ap (λ n. n ∷ (peak s m (picked_of (greater x y)) (peak_of (greater x y)) ∷ [])) (picked-join s m (picked_of x) (picked_of y))
       ∙ ap (λ n. max (picked s m (picked_of x)) (picked s m (picked_of y)) ∷ (n ∷ [])) (peaks s m x y e);

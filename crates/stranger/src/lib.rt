@@ -3,7 +3,7 @@
 #![tactic(auto)]
 
 ghost use Rattle.std.specs.Prelude.{◌≡◌, ◌≤◌, [], ◌∷◌, length, ◌==◌};
-ghost use Rattle.std.proofs.Common.{sym, rules, arith};
+ghost use Rattle.std.proofs.Common.{sym, rules};
 ghost use Rattle.resource.specs.Answers.{row_answer};
 ghost use Rattle.words.specs.Days.{own_verdict};
 ghost use Rattle.words.specs.Making.{figure_made};
@@ -131,7 +131,7 @@ impl Resource for Tally {
 
     ghost accepts = { λ t. own_verdict sound (counting t.most_stops t.most_late) (0 ∷ (0 ∷ [])) };
 
-    ghost bounded = { first_of (Prim.search rules, Prim.grind (arith, Self.row.coded.inj)) };
+    ghost bounded = { Prim.search rules };
 
     ghost lawful = { λ t narrow. counting_lawful t.most_stops t.most_late t.few_stops t.few_late };
 

@@ -17,10 +17,10 @@ pub eight_routes : (t : Table) → length (routes_in t) ≡ route_count
 eight_routes t = length-map t.routes stops_of ∙ t.eight
 
 pub table_short : (t : Table) (q : ℕ) → length (route_of (routes_in t) q) ≤ most_stops
-table_short t q = short_route (routes_in t) t.apart t.stops q
+table_short t q = short_route (routes_in t) t.no_stop_twice t.stops q
 
 pub table_steps : (t : Table) (q : ℕ) → step_count (route_of (routes_in t) q) ≤ stop_records
-table_steps t q = short_steps (routes_in t) t.apart t.stops q
+table_steps t q = short_steps (routes_in t) t.no_stop_twice t.stops q
 
 pub table_stops : (t : Table) (q : ℕ) → are_stops (route_of (routes_in t) q) ≡ true
 table_stops t q = route_stops (routes_in t) t.stops q
@@ -64,7 +64,7 @@ module _ (t : Table) (x n : ℕ) (is : n ≡ route_with x (routes_in t)) (some :
   pub stored_dropped : (d new : Route) → stops_of new ≡ take_out x (stops_of (get_or t.routes (n - 1) d)) → routes_of (set t.routes (n - 1) new) ≡ dropped x (routes_in t)
   stored_dropped d new took =
       let there = ap (λ q. holds x (route_of (routes_in t) q)) is ∙ (stands_there x (routes_in t) (λ free. some (is ∙ free))).2 in
-      stored_set t.routes (n - 1) d (omega (arith, t.eight, route_place)) (take_out x) new took ∙ sym (dropped-set x (routes_in t) (n - 1) t.apart there)
+      stored_set t.routes (n - 1) d (omega (arith, t.eight, route_place)) (take_out x) new took ∙ sym (dropped-set x (routes_in t) (n - 1) t.no_stop_twice there)
 
 -- ---- a stop is put in
 
@@ -89,13 +89,13 @@ module _ (t : Table) (x r k : ℕ) (fits : fits_in x r k (routes_in t) ≡ true)
   here d = read t (r - 1) d (omega (arith, number))
 
   pub placing_room : (d : Route) → length (stops_of (get_or t.routes (r - 1) d)) < most_stops
-  placing_room d = omega (arith, ap length (here d), has_room x (routes_in t) t.apart t.stops stop free r)
+  placing_room d = omega (arith, ap length (here d), has_room x (routes_in t) t.no_stop_twice t.stops stop free r)
 
   pub placing_within : (d : Route) → k ≤ length (stops_of (get_or t.routes (r - 1) d))
   placing_within d = omega (arith, ap length (here d), leb-true k _ (and_parts (is_route r) _ place).1)
 
   pub placing_apart : apart (placed x r k (routes_in t)) ≡ true
-  placing_apart = apart-placed x r k (routes_in t) number.0 high free t.apart
+  placing_apart = apart-placed x r k (routes_in t) number.0 high free t.no_stop_twice
 
   pub placing_stops : stops_alone (placed x r k (routes_in t)) ≡ true
   placing_stops = stops_placed x r k (routes_in t) number.0 high stop t.stops

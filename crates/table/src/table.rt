@@ -17,7 +17,7 @@ pub const ROUTES: usize = 8;
 pub struct Table {
     routes: [Route; ROUTES],
     ghost eight: { length routes ≡ route_count },
-    ghost apart: { apart (routes_of routes) ≡ true },
+    ghost no_stop_twice: { apart (routes_of routes) ≡ true },
     ghost stops: { stops_alone (routes_of routes) ≡ true },
 }
 

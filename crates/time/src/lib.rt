@@ -3,7 +3,7 @@
 #![tactic(auto)]
 
 ghost use Rattle.std.specs.Prelude.{◌≡◌, ◌≤◌, [], ◌∷◌, length, ◌==◌};
-ghost use Rattle.std.proofs.Common.{sym, rules, arith};
+ghost use Rattle.std.proofs.Common.{sym, rules};
 ghost use Rattle.resource.specs.Answers.{row_answer};
 ghost use Rattle.words.specs.Days.{own_verdict};
 ghost use Rattle.words.specs.Making.{figure_answer, figure_made};
@@ -121,7 +121,7 @@ impl Resource for Time {
 
     ghost accepts = { λ t. own_verdict sound hours (t.beginning ∷ []) };
 
-    ghost bounded = { first_of (Prim.search rules, Prim.grind (arith, Self.row.coded.inj)) };
+    ghost bounded = { Prim.search rules };
 
     ghost lawful = { λ t narrow. hours_lawful t.beginning t.early };
 

@@ -30,7 +30,7 @@ invariant_of-result c =
     let x = c.args.stop in
     record {
       eight = length-set t.routes _ _ ∙ t.eight;
-      apart = ap apart (written c) ∙ apart-dropped x (routes_in t) t.apart;
+      no_stop_twice = ap apart (written c) ∙ apart-dropped x (routes_in t) t.no_stop_twice;
       stops = ap stops_alone (written c) ∙ stops_dropped x (routes_in t) t.stops;
     }
 

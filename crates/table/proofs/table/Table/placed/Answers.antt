@@ -23,7 +23,7 @@ invariant_of-result c =
     let fits = sym c.if-not-fits_in.ensures in
     record {
       eight = length-set t.routes _ _ ∙ t.eight;
-      apart = ap apart (written c) ∙ placing_apart t _ _ _ fits;
+      no_stop_twice = ap apart (written c) ∙ placing_apart t _ _ _ fits;
       stops = ap stops_alone (written c) ∙ placing_stops t _ _ _ fits;
     }
 
