@@ -37,7 +37,7 @@ abbrev pub route_from : ℕ → ℕ → Routes → ℕ
 route_from n x [] = 0
 route_from n x (r ∷ rs) = cond (holds x r) n (route_from (suc n) x rs)
 
--- the number of the route on which a stop stands; 0 where it is free
+-- the number of the route on which a stop stands; 0 where no route has it
 abbrev pub route_with : ℕ → Routes → ℕ
 route_with x rs = route_from 1 x rs
 

@@ -37,7 +37,7 @@ impl Table {
         }
     }
 
-    // The number of the route on which a stop stands, or 0 where it is free.
+    // The number of the route on which a stop stands, or 0 where no route has it.
     pub fn route_with(&self, stop: u32) -> u32
         ensures { result ≡ route_with stop (routes_in self.now) }
     {
@@ -77,7 +77,7 @@ impl Table {
         Some(Table { routes })
     }
 
-    // The table with a stop taken off its route. The same table where the stop is free.
+    // The table with a stop taken off its route. The same routes where none has it.
     pub fn dropped(self, stop: u32) -> Table
         ensures { routes_in result ≡ dropped stop (routes_in self) }
     {

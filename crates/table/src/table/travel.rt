@@ -46,6 +46,7 @@ impl Table {
         }
         Some(total)
     }
+
     // What a change adds: planned travel after it less that before, with its sign. None as in planned travel.
     pub fn added_by(&self, changed: &Table, stops: &[Stop], legs: &[Leg]) -> Option<i64>
         ensures { result ≡ (if tables_fit stops.now legs.now then Some (added stops.now legs.now (routes_in self.now) (routes_in changed.now)) else None) }
