@@ -2,47 +2,29 @@
 
 #![tactic(auto)]
 
-use anyhow::anyhow;
+use anyhow::bail;
 use dayfile::copier::copy_day;
 use dayfile::reader::LONGEST_TEXT;
-use dayfile::refusal::{CopyRefusal, ReadRefusal};
-use records::route::window_only;
-use records::{LEG_RECORDS, Leg, STOP_RECORDS};
+use dayfile::refusal::CopyRefusal;
+use records::{LEG_RECORDS, Leg, STOP_RECORDS, Stop};
 use std::fs;
 use std::io::Write;
-
-fn print_unread(rt: &HostRuntime, refusal: ReadRefusal) -> anyhow::Result<()> {
-    let number = refusal.number();
-    let line = refusal.line();
-    println!(rt; "(unread {number} {line})")?;
-    Ok(())
-}
 
 fn check_day(rt: &HostRuntime) -> anyhow::Result<()> {
     let heap = rt.alloc();
     let text = fs::read(rt, "day.txt")?;
-    let no_stop = window_only(0, 0);
-    let no_leg = Leg {
-        travel: 0,
-        travel_deviation: 0,
-    };
-    let mut stops = vec![in heap; no_stop; STOP_RECORDS]?;
-    let mut legs = vec![in heap; no_leg; LEG_RECORDS]?;
+    let mut stops = vec![in heap; Stop::default(); STOP_RECORDS]?;
+    let mut legs = vec![in heap; Leg::default(); LEG_RECORDS]?;
     let mut buffer = vec![in heap; 0u8; LONGEST_TEXT]?;
-    match copy_day(
-        text.as_slice(),
-        stops.as_mut_slice(),
-        legs.as_mut_slice(),
-        buffer.as_mut_slice(),
-    ) {
+    match copy_day(&text, &mut stops, &mut legs, &mut buffer) {
         Ok(length) => {
             buffer.truncate(length);
-            rt.stdout().write_all(buffer.as_slice())?;
-            Ok(())
+            rt.stdout().write_all(&buffer)?;
         }
-        Err(CopyRefusal::Unread(refusal)) => print_unread(rt, refusal),
-        Err(CopyRefusal::Unwritten(_)) => Err(anyhow!("the day was read and not written")),
+        Err(CopyRefusal::Unread(refusal)) => println!(rt; "{refusal}")?,
+        Err(CopyRefusal::Unwritten(_)) => bail!("the day was read and not written"),
     }
+    Ok(())
 }
 
 fn main(rt: HostRuntime) -> anyhow::Result<()> {

@@ -13,8 +13,8 @@ use Rattle.dayfile.specs.Storing.{put}
 use Rattle.dayfile.specs.declared.expectation.Expectation.{Expectation}
 use Rattle.dayfile.specs.declared.expectation.Expectation.TheVariants as due
 use Rattle.dayfile.specs.Expecting.{subject_due, after_stop, after_leg, Follows, day, depot, capacity, drive, travel_budget, serve_budget, demand_budget, stops, stop, leg, end}
-use Rattle.dayfile.specs.Walking.{count, line_due}
-use Rattle.dayfile.proofs.Places.{Range, Last, after_leg_lem, after_stop_lem}
+use Rattle.dayfile.specs.Walking.{count, line_due, Range}
+use Rattle.dayfile.proofs.Places.{Last, after_leg_lem, after_stop_lem}
 
 -- a leg comes before the leg from i to j
 abbrev pub Earlier : ℕ → ℕ → ℕ → ℕ → Type 0
@@ -201,15 +201,15 @@ forth stops d x s g r t a = (
   ap (λ h. line.Stops h.stops) (sym a.1),
 )
 forth (stop {k} {n} {number} {s}) d x sz g r t a =
-    let is : number ≡ k = ap (λ p. p.0) t in
+    let is : number ≡ k = cc in
     let b = subst (λ m. Agrees (after_stop k n) (put (line.Stop m s) d) x) is a in
     let p = stop_part k n (put (line.Stop k s) d) x r.2 r.0.0 b in
     let w = same_window d x sz k s r.1 (omega arith) in
     let q = stop_forth d x sz k s r.1 (omega arith) p.2 in
     (((sym (ap (λ y. y.opens) w) ∙ p.0.0, sym (ap (λ y. y.closes) w) ∙ p.0.1), p.1, q.0), (λ i. line.Stop (sym is i) (q.1 i)))
 forth (leg {i} {j} {n} {u} {v} {l}) d x sz g r t a =
-    let is : u ≡ i = ap (λ p. p.0) t in
-    let js : v ≡ j = ap (λ p. p.1) t in
+    let is : u ≡ i = cc in
+    let js : v ≡ j = cc in
     let b = subst (λ m. Agrees (after_leg i j n) (put (line.Leg m j l) d) x) is (subst (λ m. Agrees (after_leg i j n) (put (line.Leg u m l) d) x) js a) in
     let p = leg_part i j n (put (line.Leg i j l) d) x b in
     let on = subst (λ m. Advances i j m (leg_due (after_leg i j n) m).0 (leg_due (after_leg i j n) m).1) r.0.0 (advances i j n r.1 r.2 r.3) in
@@ -237,14 +237,14 @@ back (stops {n}) d x s g r t a is =
       λ m h f. absurd (omega arith),
     )
 back (stop {k} {n} {number} {s}) d x sz g r t a is =
-    let same : number ≡ k = ap (λ p. p.0) t in
+    let same : number ≡ k = cc in
     let there : stop_at x k ≡ s = cc in
     let w = same_window d x sz k s r.1 (omega arith) in
     subst (λ m. Agrees (after_stop k n) (put (line.Stop m s) d) x) (sym same)
     (from_stop_part k n (put (line.Stop k s) d) x r.2 r.0.0 ((ap (λ y. y.opens) w ∙ a.0.0, ap (λ y. y.closes) w ∙ a.0.1), a.1, stop_back d x sz k s r.1 (omega arith) a.2 there))
 back (leg {i} {j} {n} {u} {v} {l}) d x sz g r t a is =
-    let same : u ≡ i = ap (λ p. p.0) t in
-    let too : v ≡ j = ap (λ p. p.1) t in
+    let same : u ≡ i = cc in
+    let too : v ≡ j = cc in
     let there : leg_at x i j ≡ l = cc in
     let on = subst (λ m. Advances i j m (leg_due (after_leg i j n) m).0 (leg_due (after_leg i j n) m).1) r.0.0 (advances i j n r.1 r.2 r.3) in
     subst (λ m. Agrees (after_leg i j n) (put (line.Leg m v l) d) x) (sym same)

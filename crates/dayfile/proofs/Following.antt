@@ -1,19 +1,15 @@
 -- What is due after a line, as facts on the line. Assumes nothing.
-use Rattle.std.proofs.Common.{◌≡◌, ◌<◌, true, false, length, Some, sym, refl, ap, ◌∙◌, subst, arith}
-use Rattle.std.proofs.lemmas.Bool.{true≢false, false≢true}
+use Rattle.std.proofs.Common.{◌≡◌, ◌<◌, true, length, Some, None, Option, refl, arith}
+use Rattle.std.proofs.lemmas.Bool.{and_from, eq-eqb}
 use Rattle.lines.specs.declared.line.Line.{Line}
 use Rattle.lines.specs.declared.line.Line.TheVariants as line
 use Rattle.lines.specs.Forms.{form_of, line_text}
-use Rattle.dayfile.specs.Bounds.{subject}
-use Rattle.dayfile.specs.Days.{Day}
-use Rattle.dayfile.specs.Storing.{Storable}
-use Rattle.dayfile.specs.declared.expectation.Expectation.TheVariants as due
-use Rattle.dayfile.proofs.Places.{Range}
+use Rattle.dayfile.specs.declared.bounds.Subject.{Subject}
+use Rattle.dayfile.specs.declared.bounds.Subject.TheVariants as about
+use Rattle.dayfile.specs.contracts.bounds.SubjectPartialEq.TheImpl.{eq-value}
+use Rattle.std.specs.Option.{option_eq}
 use Rattle.dayfile.specs.declared.expectation.Expectation.{Expectation}
-use Rattle.dayfile.specs.Expecting.{form_due, subject_due, is_nothing, Follows, Passes, day, depot, capacity, drive, travel_budget, serve_budget, demand_budget, stops, stop, leg, end}
-
-pub carried : {e e' : Expectation} {l l' : Line} {n n' : Expectation} → e' ≡ e → l' ≡ l → n' ≡ n → Follows e l n → Follows e' l' n'
-carried {e} {e'} {l} {l'} {n} {n'} p q r f = subst (λ x. Follows x l' n') (sym p) (subst (λ x. Follows e x n') (sym q) (subst (Follows e l) (sym r) f))
+use Rattle.dayfile.specs.Expecting.{form_due, Follows, day, depot, capacity, drive, travel_budget, serve_budget, demand_budget, stops, stop, leg, end}
 
 pub follows_form : {e : Expectation} {l : Line} {n : Expectation} → Follows e l n → Some (form_of l) ≡ form_due e
 follows_form day = refl
@@ -42,36 +38,12 @@ some_bytes (line.Stop n s) = omega arith
 some_bytes (line.Leg i j l) = omega arith
 some_bytes line.End = omega arith
 
-pub nothing_due : (e : Expectation) → is_nothing e ≡ true → e ≡ due.Nothing
-nothing_due due.Day h = absurd (false≢true h)
-nothing_due due.Depot h = absurd (false≢true h)
-nothing_due due.Capacity h = absurd (false≢true h)
-nothing_due due.Drive h = absurd (false≢true h)
-nothing_due due.TravelBudget h = absurd (false≢true h)
-nothing_due due.ServeBudget h = absurd (false≢true h)
-nothing_due due.DemandBudget h = absurd (false≢true h)
-nothing_due due.Stops h = absurd (false≢true h)
-nothing_due (due.Stop k n) h = absurd (false≢true h)
-nothing_due (due.Leg i j n) h = absurd (false≢true h)
-nothing_due due.End h = absurd (false≢true h)
-nothing_due due.Nothing h = refl
+-- a subject is equal to itself
+pub same_subject : (o : Option Subject) → option_eq eq-value.it o o ≡ true
+same_subject None = refl
+same_subject (Some (about.Stop n)) = eq-eqb n n refl
+same_subject (Some (about.Leg i j)) = and_from _ _ (eq-eqb i i refl) (eq-eqb j j refl)
 
-pub something_due : (e : Expectation) → is_nothing e ≡ false → e ≡ due.Nothing → ⊥
-something_due e h is = true≢false (sym (ap is_nothing is) ∙ h)
+pub ruleset following = (day, depot, capacity, drive, travel_budget, serve_budget, demand_budget, stops, stop, leg, end)
 
--- a line within bounds, in turn where it is due, has a place in the tables
-pub storable : {e : Expectation} {l : Line} {next : Expectation} (d : Day) → Passes e l next → Range e d → Storable l
-storable d p r = go p.follows d p.turn r
-  where
-    go : {e : Expectation} {l : Line} {next : Expectation} → Follows e l next → (d : Day) → subject l ≡ subject_due e → Range e d → Storable l
-    go day d t r = tt
-    go depot d t r = tt
-    go capacity d t r = tt
-    go drive d t r = tt
-    go travel_budget d t r = tt
-    go serve_budget d t r = tt
-    go demand_budget d t r = tt
-    go stops d t r = tt
-    go (stop {k} {n} {number}) d t r = let same : number ≡ k = ap (λ p. p.0) t in omega arith
-    go (leg {i} {j} {n} {u} {v}) d t r = let same : u ≡ i = ap (λ p. p.0) t in let too : v ≡ j = ap (λ p. p.1) t in (omega arith, omega arith)
-    go end d t r = tt
+pub ruleset judging = (follows_form, same_subject)

@@ -1,5 +1,4 @@
 pub mod Agreeing
-pub mod Copying
 pub mod Following
 pub mod Outcomes
 pub mod Places

@@ -1,8 +1,9 @@
 -- From the lines that were read to the answer: each turn of the reader, and each way in which it ends. Assumes nothing.
-use Rattle.std.proofs.Common.{◌≡◌, ℕ, suc, ◌+◌, ◌*◌, ◌<◌, ◌≤◌, true, false, List, [], ◌∷◌, ◌++◌, length, get_or, replicate, is_err, Some, None, Ok, Err, Result, sym, refl, ap, ◌∙◌, subst, inl, inr, ⊎_elim, add-one, arith}
+use Rattle.std.proofs.Common.{◌≡◌, ℕ, suc, ◌+◌, ◌*◌, ◌<◌, ◌≤◌, true, false, List, [], ◌∷◌, ◌++◌, length, get_or, replicate, Some, None, Ok, Err, Result, sym, refl, ap, ◌∙◌, subst, inl, inr, ⊎_elim, add-one, arith}
 use Rattle.std.specs.List.{flat_map}
+use Rattle.std.specs.Result.{MatchResult}
 use Rattle.std.proofs.lemmas.List.{append_assoc, append-nil, append_cancel_left, flat_map_more, length_push, get_or-replicate, get_or_past, length-replicate, nil_from_length}
-use Rattle.std.proofs.lemmas.Bool.{both_ways, cases_lt, true≢false, false≢true}
+use Rattle.std.proofs.lemmas.Bool.{both_ways, cases_lt}
 use Rattle.lines.specs.declared.line.Line.{Line}
 use Rattle.lines.specs.Forms.{line_text, form_of}
 use Rattle.lines.specs.Lines.{BeginsWith, Parsed}
@@ -10,19 +11,16 @@ use Rattle.dayfile.specs.Bounds.{sound_stop, sound_leg, within, ordered, subject
 use Rattle.records.specs.Records.{no_head, no_stop, no_leg}
 use Rattle.dayfile.specs.Days.{Day, Valid, Clean, day_lines, day_text}
 use Rattle.dayfile.specs.Storing.{day_of, put}
-use Rattle.dayfile.specs.Answers.{Stands, OutOfForm, OutOfBounds, OutOfTurn, GoesOn, NoDay, Refused, refused_line, LinesRead, Answered}
+use Rattle.dayfile.specs.Answers.{Stands, OutOfForm, OutOfBounds, OutOfTurn, GoesOn, NoDay, Refused, refused_line}
 use Rattle.dayfile.specs.declared.expectation.Question.{Question}
 use Rattle.dayfile.specs.declared.expectation.Question.TheVariants.{Form, Bounds, Turn}
-use Rattle.records.specs.declared.Head.{Head}
-use Rattle.records.specs.declared.Stop.{Stop}
-use Rattle.records.specs.declared.Leg.{Leg}
 use Rattle.dayfile.specs.declared.refusal.ReadRefusal.{ReadRefusal}
 use Rattle.dayfile.specs.declared.expectation.Expectation.{Expectation}
 use Rattle.dayfile.specs.declared.expectation.Expectation.TheVariants as due
 use Rattle.dayfile.specs.Expecting.{form_due, subject_due, Passes, Judged}
 use Rattle.dayfile.proofs.Following.{follows_form}
-use Rattle.dayfile.specs.Walking.{line_due}
-use Rattle.dayfile.proofs.Places.{from, from_step, Range}
+use Rattle.dayfile.specs.Walking.{line_due, from, Range}
+use Rattle.dayfile.proofs.Places.{from_step}
 use Rattle.dayfile.proofs.Agreeing.{Agrees, forth, back}
 use Rattle.dayfile.proofs.Standing.{leads, in_form_lem, Fits, fits, filled_up, filled-valid, filled_agrees}
 use Rattle.dayfile.proofs.Reading.{Sound, Zeros, sound_put, zeros_put, range_put, range_of}
@@ -139,10 +137,14 @@ module _ (text : List ℕ) (e : Expectation) (d : Day) (rest : List ℕ) (number
       λ x v t. let q = (passes_for x v t).0 in o q.1 q.2,
     )
 
-    pub refused : (q : Question) → Judged e l (Err q) → NoDay text × Refused text (refused_line q number)
+    refused : (q : Question) → Judged e l (Err q) → NoDay text × Refused text (refused_line q number)
     refused Form j = let r = other_form j in (r.1, r.0)
     refused Bounds j = let r = outside_bounds j.0 j.1 in (r.1, r.0)
     refused Turn j = let r = other_turn j.0 j.1 j.2 in (r.1, r.0)
+
+    pub refused_by : (j : Result Expectation Question) → Judged e l j → (w : ReadRefusal) → MatchResult j (λ next. ⊥) (λ q. w ≡ refused_line q number) → NoDay text × Refused text w
+    refused_by (Ok next) j w is = absurd is
+    refused_by (Err q) j w is = subst (λ x. NoDay text × Refused text x) (sym is) (refused q j)
 
     -- one line more
     pub one_more : (next : Expectation) → Passes e l next → Reading text next (put l d) after (number + 1)
@@ -226,11 +228,3 @@ at_start text = record {
   first = λ x a. refl;
   exact = λ x v t. (tt, t);
 }
-
-pub answered_refused : (text : List ℕ) (r : Result Head ReadRefusal) (ss ss' : List Stop) (ls ls' : List Leg) → is_err r ≡ true → LinesRead text r ss ls → ss' ≡ replicate 41 no_stop → ls' ≡ replicate 1681 no_leg → Answered text r ss' ls'
-answered_refused text (Ok h) ss ss' ls ls' e a p q = absurd (false≢true e)
-answered_refused text (Err f) ss ss' ls ls' e a p q = (a.0, a.1, p, q)
-
-pub answered-granted : (text : List ℕ) (r : Result Head ReadRefusal) (ss : List Stop) (ls : List Leg) → is_err r ≡ false → LinesRead text r ss ls → Answered text r ss ls
-answered-granted text (Ok h) ss ls e a = a
-answered-granted text (Err f) ss ls e a = absurd (true≢false e)

@@ -1,12 +1,11 @@
 -- What is known of a text of which some lines were read. Assumes nothing.
-use Rattle.std.proofs.Common.{◌≡◌, ℕ, ◌+◌, ◌*◌, ◌<◌, ◌≤◌, true, leb, ◌⊎◌, length, get_or, set, sym, refl, ap, ◌∙◌, subst, inl, inr, ⊎_elim, arith}
+use Rattle.std.proofs.Common.{◌≡◌, ℕ, zero, suc, List, [], ◌∷◌, ◌+◌, ◌*◌, ◌<◌, ◌≤◌, true, leb, ◌⊎◌, length, get_or, set, sym, refl, ap, ◌∙◌, subst, inl, inr, ⊎_elim, arith}
 use Rattle.std.proofs.lemmas.List.{get_or-set_other, length-set}
 use Rattle.std.proofs.lemmas.Bool.{and_parts, and_from, leb-true}
 use Rattle.records.specs.declared.Head.{Head}
 use Rattle.records.specs.declared.Stop.{Stop}
 use Rattle.lines.specs.declared.line.Line.{Line}
 use Rattle.lines.specs.declared.line.Line.TheVariants as line
-use Rattle.lines.proofs.Parsing.{kept_by_set}
 use Rattle.dayfile.specs.Bounds.{is_time, is_quantity, is_budget, sound_stop, sound_leg, within, ordered, subject}
 use Rattle.records.specs.Records.{no_stop, no_leg, window_only}
 use Rattle.dayfile.specs.Days.{Day, stop_at, leg_at}
@@ -14,9 +13,17 @@ use Rattle.dayfile.specs.Storing.{day_of, put}
 use Rattle.dayfile.specs.declared.expectation.Expectation.{Expectation}
 use Rattle.dayfile.specs.declared.expectation.Expectation.TheVariants as due
 use Rattle.dayfile.specs.Expecting.{subject_due, after_stop, after_leg, Follows, day, depot, capacity, drive, travel_budget, serve_budget, demand_budget, stops, stop, leg, end}
-use Rattle.dayfile.specs.Walking.{count}
-use Rattle.dayfile.proofs.Places.{Range, after_leg_lem, after_stop_lem}
+use Rattle.dayfile.specs.Walking.{count, Range}
+use Rattle.dayfile.proofs.Places.{after_leg_lem, after_stop_lem}
 use Rattle.dayfile.proofs.Agreeing.{Agrees, Earlier, leg_due, Advances, advances, stop_kept, depot_put, leg_kept}
+
+-- what holds of each element holds after a write of such a one
+kept_by_set : {X : Type 0} (P : X → Type 0) (xs : List X) (i k : ℕ) (x d : X) → P x → P (get_or xs k d) → P (get_or (set xs i x) k d)
+kept_by_set P [] i k x d p q = q
+kept_by_set P (y ∷ xs) zero zero x d p q = p
+kept_by_set P (y ∷ xs) zero (suc k) x d p q = q
+kept_by_set P (y ∷ xs) (suc i) zero x d p q = q
+kept_by_set P (y ∷ xs) (suc i) (suc k) x d p q = kept_by_set P xs i k x d p q
 
 -- every figure of a day's head is within its bounds, but the count of stops
 pub record SoundHead (h : Head) : Type 0 where
@@ -100,14 +107,14 @@ zeros_put serve_budget d s r t z = legs_later refl z z.depot z.stop
 zeros_put demand_budget d s r t z = legs_later refl z z.depot z.stop
 zeros_put stops d s r t z = legs_later refl z z.depot z.stop
 zeros_put (stop {k} {n} {number} {s = x}) d s r t z =
-    let same : number ≡ k = ap (λ p. p.0) t in
+    let same : number ≡ k = cc in
     let w = stop_kept d s.stop_count k 0 x (λ e. omega arith) in
     let later : ((m : ℕ) → stop_due (after_stop k n) (count d) ≤ m → k < m) = λ m. after_stop_lem k n (λ q. stop_due q (count d) ≤ m → k < m) (λ a b. omega arith) (λ a b. omega arith) in
     subst (λ m. Zeros (after_stop k n) (put (line.Stop m x) d)) (sym same)
     (legs_later refl z (w ∙ z.depot ∙ (λ i. window_only (sym w i).opens (sym w i).closes)) (λ m h. let g = later m h in stop_kept d s.stop_count k m x (λ e. omega arith) ∙ z.stop m (omega arith)))
 zeros_put (leg {i} {j} {n} {u} {v} {l}) d s r t z =
-    let same : u ≡ i = ap (λ p. p.0) t in
-    let too : v ≡ j = ap (λ p. p.1) t in
+    let same : u ≡ i = cc in
+    let too : v ≡ j = cc in
     let all : stop_due (after_leg i j n) (count d) ≡ count d + 1 = after_leg_lem i j n (λ q. stop_due q (count d) ≡ count d + 1) (λ a b. refl) (λ a b. refl) (λ a b. refl) (λ a b. refl) in
     let on = subst (λ m. Advances i j m (leg_due (after_leg i j n) m).0 (leg_due (after_leg i j n) m).1) r.0.0 (advances i j n r.1 r.2 r.3) in
     subst (λ m. Zeros (after_leg i j n) (put (line.Leg m v l) d)) (sym same)

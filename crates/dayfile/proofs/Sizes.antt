@@ -1,8 +1,9 @@
 -- How long the text of a valid day is. Assumes nothing.
-use Rattle.std.proofs.Common.{◌≡◌, ℕ, zero, suc, ◌+◌, ◌*◌, ◌<◌, ◌≤◌, List, [], ◌∷◌, ◌++◌, length, sym, refl, ap, ◌∙◌, subst, ⊎_elim, suc-mul, arith, length-append}
+use Rattle.std.proofs.Common.{◌≡◌, ℕ, zero, suc, ◌+◌, ◌*◌, ◌<◌, ◌≤◌, List, [], ◌∷◌, ◌++◌, length, get_or, sym, refl, ap, ◌∙◌, subst, ⊎_elim, suc-mul, arith, length-append}
 use Rattle.std.specs.List.{flat_map, AllByRecursion}
 use Rattle.std.proofs.lemmas.List.{append_assoc, append-nil}
 use Rattle.std.proofs.lemmas.Bool.{and_parts, leb-true, cases_eq, cond-true, cond-false, eq-eqb, ne_eqb}
+use Rattle.std.proofs.lemmas.Fmt.{length-decimal-le}
 use Rattle.lines.specs.declared.line.Line.{Line}
 use Rattle.lines.specs.declared.line.Line.TheVariants as line
 use Rattle.lines.specs.Scan.{holes}
@@ -10,9 +11,8 @@ use Rattle.lines.specs.Forms.{template, form_of, figures, line_text, InForm}
 use Rattle.lines.proofs.Filling.{filled_short}
 use Rattle.lines.proofs.Parsing.{small_figures}
 use Rattle.dayfile.specs.Days.{Day, Valid, span, head_lines, stop_line, leg_line, legs_from, day_text, stop_at, leg_at}
-use Rattle.dayfile.specs.Walking.{count, line_due}
+use Rattle.dayfile.specs.Walking.{count, line_due, Range}
 use Rattle.dayfile.specs.declared.expectation.Expectation.TheVariants as due
-use Rattle.dayfile.proofs.Places.{Range}
 use Rattle.dayfile.proofs.Standing.{fits, in_form_lem}
 
 joined_append : (ls ms : List Line) → flat_map line_text (ls ++ ms) ≡ flat_map line_text ls ++ flat_map line_text ms
@@ -20,8 +20,10 @@ joined_append [] ms = refl
 joined_append (l ∷ ls) ms = ap (λ q. line_text l ++ q) (joined_append ls ms) ∙ sym (append_assoc (line_text l) (flat_map line_text ls) (flat_map line_text ms))
 
 -- a line in form has a bounded length
-line_short : (l : Line) → InForm l → length (line_text l) ≤ length (template (form_of l)) + 5 * holes (template (form_of l))
-line_short l a = filled_short (template (form_of l)) 0 (figures l) (small_figures (figures l) a)
+line_short : (l : Line) → InForm l → length (line_text l) ≤ length (template (form_of l)) + holes (template (form_of l)) * 5
+line_short l a =
+    filled_short 5 (template (form_of l)) 0 (figures l)
+    (λ i. let small = small_figures (figures l) a i in length-decimal-le 6 (get_or (figures l) i 0) (omega arith) small (omega arith))
 
 -- how long the lines of a list are together
 abbrev size : List Line → ℕ
@@ -47,7 +49,7 @@ module _ (d : Day) (v : Valid d) where
   few : (1 ≤ count d) × (count d ≤ 40)
   few = let p = and_parts _ _ v.count in (leb-true 1 (count d) p.0, leb-true (count d) 40 p.1)
 
-  due_short : (e : _) → Range e d → length (line_text (line_due d e)) ≤ length (template (form_of (line_due d e))) + 5 * holes (template (form_of (line_due d e)))
+  due_short : (e : _) → Range e d → length (line_text (line_due d e)) ≤ length (template (form_of (line_due d e))) + holes (template (form_of (line_due d e))) * 5
   due_short e r = let f = fits e d v r in line_short (line_due d e) (in_form_lem (line_due d e) f.0 f.3)
 
   head_short : size (head_lines d) ≤ 240

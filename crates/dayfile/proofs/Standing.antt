@@ -6,12 +6,11 @@ use Rattle.lines.specs.declared.line.Line.TheVariants as line
 use Rattle.lines.specs.Forms.{InForm}
 use Rattle.dayfile.specs.Bounds.{is_time, is_quantity, is_count, within, ordered, subject}
 use Rattle.dayfile.specs.Days.{Day, Valid}
-use Rattle.dayfile.specs.Storing.{put}
-use Rattle.dayfile.specs.Walking.{count, line_due}
+use Rattle.dayfile.specs.Storing.{put, Storable}
+use Rattle.dayfile.specs.Walking.{count, line_due, Range}
 use Rattle.dayfile.specs.declared.expectation.Expectation.{Expectation}
 use Rattle.dayfile.specs.declared.expectation.Expectation.TheVariants as due
 use Rattle.dayfile.specs.Expecting.{subject_due, Follows, day, depot, capacity, drive, travel_budget, serve_budget, demand_budget, stops, stop, leg, end}
-use Rattle.dayfile.proofs.Places.{Range}
 use Rattle.dayfile.proofs.Agreeing.{Agrees}
 use Rattle.dayfile.proofs.Reading.{Sound, sound_put}
 
@@ -35,7 +34,7 @@ small : (n m : ℕ) → leb n m ≡ true → m < 1000000 → n < 1000000
 small n m e h = omega (arith, leb-true n m e)
 
 -- the numbers of a line within bounds are in form
-pub in_form_lem : (l : Line) → within l ≡ true → (subject l).0 < 1000000 → InForm l
+pub in_form_lem : (l : Line) → within l ≡ true → Storable l → InForm l
 in_form_lem line.Day w s = tt
 in_form_lem (line.Depot o c) w s = let p = and_parts _ _ w in (small o 100000 p.0 (omega arith), (small c 100000 p.1 (omega arith), tt))
 in_form_lem (line.Capacity n) w s = (small n 10000 w (omega arith), tt)
@@ -51,7 +50,7 @@ in_form_lem (line.Stop n x) w s =
     let t = and_parts _ _ r.1 in
     let time : ((m : ℕ) → is_time m ≡ true → m < 1000000) = λ m e. small m 100000 e (omega arith) in
     let crates : ((m : ℕ) → is_quantity m ≡ true → m < 1000000) = λ m e. small m 10000 e (omega arith) in (
-      s,
+      omega arith,
       (time _ (and_parts _ _ p.0).0, (time _ (and_parts _ _ p.0).1, (time _ (and_parts _ _ q.0).0, (time _ (and_parts _ _ q.0).1, (crates _ (and_parts _ _ r.0).0, (crates _ (and_parts _ _ r.0).1, (crates _ (and_parts _ _ t.0).0, (crates _ (and_parts _ _ t.0).1, (small _ 1 t.1 (omega arith), tt))))))))),
     )
 in_form_lem (line.Leg i j l) w s =
@@ -63,21 +62,21 @@ in_form_lem line.End w s = tt
 
 -- a line of a valid day passes where it is due
 abbrev pub Fits : Line → Expectation → Type 0
-Fits l e = (within l ≡ true) × (subject l ≡ subject_due e) × (ordered l ≡ true) × ((subject l).0 < 1000000)
+Fits l e = (within l ≡ true) × (subject l ≡ subject_due e) × (ordered l ≡ true) × Storable l
 
 pub fits : (e : Expectation) (x : Day) → Valid x → Range e x → Fits (line_due x e) e
-fits due.Day x v r = (refl, refl, refl, omega arith)
-fits due.Depot x v r = let p = v.depot in (and_from _ _ p.0 p.1, refl, le-leb _ _ p.2, omega arith)
-fits due.Capacity x v r = (v.capacity, refl, refl, omega arith)
-fits due.Drive x v r = (v.drive, refl, refl, omega arith)
-fits due.TravelBudget x v r = (v.travel_budget, refl, refl, omega arith)
-fits due.ServeBudget x v r = (v.serve_budget, refl, refl, omega arith)
-fits due.DemandBudget x v r = (v.demand_budget, refl, refl, omega arith)
-fits due.Stops x v r = (v.count, refl, refl, omega arith)
+fits due.Day x v r = (refl, refl, refl, tt)
+fits due.Depot x v r = let p = v.depot in (and_from _ _ p.0 p.1, refl, le-leb _ _ p.2, tt)
+fits due.Capacity x v r = (v.capacity, refl, refl, tt)
+fits due.Drive x v r = (v.drive, refl, refl, tt)
+fits due.TravelBudget x v r = (v.travel_budget, refl, refl, tt)
+fits due.ServeBudget x v r = (v.serve_budget, refl, refl, tt)
+fits due.DemandBudget x v r = (v.demand_budget, refl, refl, tt)
+fits due.Stops x v r = (v.count, refl, refl, tt)
 fits (due.Stop k m) x v r = let p = v.stop k r.1 (omega arith) in (p.0, refl, le-leb _ _ p.1, omega arith)
-fits (due.Leg i j m) x v r = (and_from _ _ (and_from _ _ (le-leb i 40 (omega arith)) (le-leb j 40 (omega arith))) (v.leg i j (omega arith) (omega arith) r.3), refl, refl, omega arith)
-fits due.End x v r = (refl, refl, refl, omega arith)
-fits due.Nothing x v r = (refl, refl, refl, omega arith)
+fits (due.Leg i j m) x v r = (and_from _ _ (and_from _ _ (le-leb i 40 (omega arith)) (le-leb j 40 (omega arith))) (v.leg i j (omega arith) (omega arith) r.3), refl, refl, (omega arith, omega arith))
+fits due.End x v r = (refl, refl, refl, tt)
+fits due.Nothing x v r = (refl, refl, refl, tt)
 
 -- a day whose figures are sound and whose count of stops is one is valid
 valid : (d : Day) → Sound d → is_count (count d) ≡ true → Valid d

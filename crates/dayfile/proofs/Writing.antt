@@ -1,24 +1,22 @@
 -- Walking over the lines of a day: what makes it valid, and its text written line by line. Assumes nothing.
-use Rattle.std.proofs.Common.{◌≡◌, ℕ, zero, suc, ◌+◌, ◌-◌, ◌<◌, ◌≤◌, true, cond, leb, List, [], ◌∷◌, ◌++◌, length, take, drop, Some, sym, refl, ap, ◌∙◌, subst, ⊎_elim, arith, length-append, length-drop}
+use Rattle.std.proofs.Common.{◌≡◌, ℕ, zero, suc, ◌+◌, ◌-◌, ◌<◌, ◌≤◌, Bool, true, cond, leb, ◌&&◌, List, [], ◌∷◌, ◌++◌, length, take, drop, sym, refl, ap, ◌∙◌, subst, ⊎_elim, arith, length-append, length-drop}
 use borrow.Rule.Slice.PartMut.{put_mid}
-use Rattle.std.specs.List.{flat_map, AllByRecursion}
+use Rattle.std.specs.List.{flat_map, list_all, AllByRecursion}
 use Rattle.std.proofs.lemmas.List.{take_rest, drop_all, append-nil}
-use Rattle.std.proofs.lemmas.Bool.{and_parts, leb-true, le-leb, cases_eq, cond-true, cond-false, ne_eqb}
+use Rattle.std.proofs.lemmas.Bool.{and_parts, and_from, leb-true, le-leb, cases_eq, cond-true, cond-false, ne_eqb}
 use Rattle.lines.specs.declared.line.Line.{Line}
 use Rattle.lines.specs.declared.line.Line.TheVariants as line
-use Rattle.lines.specs.Forms.{line_text, form_of}
-use Rattle.records.proofs.Writing.{Sofar, nothing_yet, part_written, all_written, written_size}
+use Rattle.lines.specs.Forms.{line_text}
+use Rattle.records.proofs.Writing.{Sofar, nothing_yet, part_written}
 use Rattle.records.proofs.Writing.{fits as fits_in}
-use Rattle.dayfile.specs.Bounds.{within, ordered}
+use Rattle.dayfile.specs.Bounds.{is_count, within, ordered}
 use Rattle.dayfile.specs.Days.{Day, Valid, span, head_lines, stop_line, leg_line, legs_from, day_lines, day_text}
-use Rattle.dayfile.specs.Walking.{count, line_due, Placed}
-use Rattle.dayfile.specs.Storing.{put}
+use Rattle.dayfile.specs.Walking.{count, line_due, Range, from}
 use Rattle.dayfile.specs.declared.expectation.Expectation.{Expectation}
 use Rattle.dayfile.specs.declared.expectation.Expectation.TheVariants as due
-use Rattle.dayfile.specs.Expecting.{form_due, Follows, day, depot, capacity, drive, travel_budget, serve_budget, demand_budget, stops, stop, leg, end}
-use Rattle.dayfile.proofs.Places.{Range, from, from_step}
-use Rattle.dayfile.proofs.Reading.{range_put, range_cong}
-use Rattle.dayfile.proofs.Following.{follows_form}
+use Rattle.dayfile.specs.Expecting.{Follows, day, depot, capacity, drive, travel_budget, serve_budget, demand_budget, stops, stop, leg, end}
+use Rattle.dayfile.proofs.Places.{from_step}
+use Rattle.dayfile.proofs.Places.{after_stop_lem, after_leg_lem}
 use Rattle.dayfile.proofs.Standing.{fits, leads}
 use Rattle.dayfile.proofs.Sizes.{day_short}
 
@@ -64,100 +62,82 @@ valid_lines d a =
           (and_parts _ _ g.0).1;
     }
 
-pub placed : (e : Expectation) (d : Day) → Range e d → Placed e
-placed due.Day d r = tt
-placed due.Depot d r = tt
-placed due.Capacity d r = tt
-placed due.Drive d r = tt
-placed due.TravelBudget d r = tt
-placed due.ServeBudget d r = tt
-placed due.DemandBudget d r = tt
-placed due.Stops d r = tt
-placed (due.Stop k n) d r = omega arith
-placed (due.Leg i j n) d r = (omega arith, omega arith)
-placed due.End d r = tt
-placed due.Nothing d r = tt
-
-count_kept : {e : Expectation} {l : Line} {next : Expectation} → Follows e l next → (d : Day) → l ≡ line_due d e → count (put l d) ≡ count d
-count_kept day d is = refl
-count_kept depot d is = refl
-count_kept capacity d is = refl
-count_kept drive d is = refl
-count_kept travel_budget d is = refl
-count_kept serve_budget d is = refl
-count_kept demand_budget d is = refl
-count_kept (stops {n}) d is = let e : n ≡ count d = cc in e
-count_kept stop d is = refl
-count_kept leg d is = refl
-count_kept end d is = refl
-
-pub range_next : {e : Expectation} {l : Line} {next : Expectation} → Follows e l next → (d : Day) → l ≡ line_due d e → within l ≡ true → Range e d → Range next d
-range_next {l = l} {next = next} f d is w r = range_cong next (put l d) d (count_kept f d is) (range_put f d w r)
+-- where a day has as many stops as a day may have, the line after one of its lines is one of its lines
+pub range_next : {e : Expectation} {l : Line} {next : Expectation} → Follows e l next → (d : Day) → l ≡ line_due d e → is_count (count d) ≡ true → Range e d → Range next d
+range_next day d is few r = tt
+range_next depot d is few r = tt
+range_next capacity d is few r = tt
+range_next drive d is few r = tt
+range_next travel_budget d is few r = tt
+range_next serve_budget d is few r = tt
+range_next demand_budget d is few r = tt
+range_next (stops {n}) d is few r =
+    let same : n ≡ count d = cc in
+    let p = and_parts (leb 1 (count d)) (leb (count d) 40) few in
+    let low = leb-true 1 (count d) p.0 in
+    let high = leb-true (count d) 40 p.1 in
+    ((same, omega arith, omega arith), omega arith, omega arith)
+range_next (stop {k} {n}) d is few r = after_stop_lem k n (λ q. Range q d) (λ a. (r.0, omega arith, omega arith)) (λ a. (r.0, omega arith, r.0.1, λ e. omega arith))
+range_next (leg {i} {j} {n}) d is few r =
+    after_leg_lem i j n (λ q. Range q d)
+    (λ a b. (r.0, r.1, omega arith, λ e. b (sym e)))
+    (λ a b. (r.0, r.1, omega arith, λ e. omega arith))
+    (λ a b. (r.0, omega arith, omega arith, λ e. omega arith))
+    (λ a b. (omega arith, omega arith))
+range_next end d is few r = r
 
 pub step_from : {e : Expectation} {l : Line} {next : Expectation} → Follows e l next → (d : Day) → l ≡ line_due d e → Range e d → from d e ≡ l ∷ from d next
 step_from {next = next} f d is r = from_step f d r ∙ ap (λ q. q ∷ from d next) (sym is)
 
--- how many lines the day has from a place on
-unfoldable pub left : Day → Expectation → ℕ
-left d e = length (from d e)
-
-pub left_falls : {e : Expectation} {l : Line} {next : Expectation} (d : Day) → Follows e l next → l ≡ line_due d e → Range e d → left d next < left d e
-unfolding left
-left_falls d f is r = omega (arith, ap length (step_from f d is r))
-
--- the lines before a place are good: if those from it on are, too, then the day is valid
-pub record Checking (e : Expectation) (d : Day) : Type 0 where
-  pub range : Range e d
-  pub rest : AllByRecursion Good (from d e) → Valid d
-
-pub checking_first : (d : Day) → Checking due.Day d
-checking_first d = record { range = tt; rest = valid_lines d }
-
-pub checking_next : {e : Expectation} {l : Line} {next : Expectation} (d : Day) → Checking e d → Follows e l next → l ≡ line_due d e → Good l → Checking next d
-checking_next d c f is g = record { range = range_next f d is g.0 c.range; rest = λ a. c.rest (subst (AllByRecursion Good) (sym (step_from f d is c.range)) (g, a)) }
-
-pub checking_all : (e : Expectation) (d : Day) → e ≡ due.Nothing → Checking e d → Valid d
-checking_all e d is c = (subst (λ q. Checking q d) is c).rest tt
-
 -- each line of a valid day is good
-pub good_line : (e : Expectation) (d : Day) (l : Line) → Valid d → Range e d → l ≡ line_due d e → Good l
-good_line e d l v r is = let f = fits e d v r in subst Good (sym is) (f.0, f.2)
+good_from : (ls : List Line) (e : Expectation) (d : Day) → Valid d → Range e d → from d e ≡ ls → AllByRecursion Good ls
+good_from [] e d v r is = tt
+good_from (l ∷ ls) e d v r is =
+    let some : (e ≡ due.Nothing → ⊥) = λ z. let none : [] ≡ l ∷ ls = sym (ap (from d) z) ∙ is in absurd (let one : ◌≡◌ {A = ℕ} 0 1 = cc in omega arith) in
+    let on = leads e d some in
+    let step : line_due d e ∷ from d on.0 ≡ l ∷ ls = sym (from_step on.1 d r) ∙ is in
+    let first : line_due d e ≡ l = cc in
+    let rest : from d on.0 ≡ ls = cc in
+    let f = fits e d v r in
+    (subst Good first (f.0, f.2), good_from ls on.0 d v (range_next on.1 d refl v.count r) rest)
 
--- a line that is due is of the form due
-pub form_due_lem : (e : Expectation) (d : Day) (l : Line) → (e ≡ due.Nothing → ⊥) → l ≡ line_due d e → Some (form_of l) ≡ form_due e
-form_due_lem e d l some is = ap (λ q. Some (form_of q)) is ∙ follows_form (leads e d some).1
+abbrev pub good : Line → Bool
+good l = within l && ordered l
 
--- the lines before a place are written
-pub record Placing (e : Expectation) (d : Day) (old out : List ℕ) (at : ℕ) : Type 0 where
-  pub range : Range e d
-  pub sofar : Sofar (day_text d) old out (flat_map line_text (from d e)) at
+all_good : (ls : List Line) → list_all good ls ≡ true → AllByRecursion Good ls
+all_good [] a = tt
+all_good (l ∷ ls) a = let p = and_parts _ _ a in (and_parts _ _ p.0, all_good ls p.1)
 
-pub placing_first : (d : Day) (old : List ℕ) → Placing due.Day d old old 0
-unfolding day_text
-placing_first d old = record { range = tt; sofar = nothing_yet (day_text d) old }
+good_all : (ls : List Line) → AllByRecursion Good ls → list_all good ls ≡ true
+good_all [] a = refl
+good_all (l ∷ ls) a = and_from _ _ (and_from _ _ a.0.0 a.0.1) (good_all ls a.1)
 
-module _ (e : Expectation) (d : Day) (old out : List ℕ) (at : ℕ) (c : Placing e d old out at) (v : Valid d) (room : 65536 ≤ length out) where
+pub valid_so : (d : Day) → list_all good (day_lines d) ≡ true → Valid d
+valid_so d a = valid_lines d (all_good (day_lines d) a)
+
+pub valid_then : (d : Day) → Valid d → list_all good (day_lines d) ≡ true
+valid_then d v = good_all (day_lines d) (good_from (day_lines d) due.Day d v tt refl)
+
+-- the lines before those of a list are written
+module _ (d : Day) (old out : List ℕ) (ls : List Line) (at : ℕ) (so : Sofar (day_text d) old out (flat_map line_text ls) at) (v : Valid d) (room : 65536 ≤ length out) (l : Line) (more : List Line) (is : ls ≡ l ∷ more) where
   short : length (day_text d) ≤ length out
   short = omega (arith, day_short d v)
 
-  -- there is room for the line that is due
-  pub line_fits : (some : e ≡ due.Nothing → ⊥) (l : Line) → l ≡ line_due d e → at + length (line_text l) ≤ length out
-  line_fits some l is =
-      let on = leads e d some in
-      let size = ap length (ap (flat_map line_text) (from_step on.1 d c.range)) ∙ length-append (line_text (line_due d e)) (flat_map line_text (from d on.0)) in
-      omega (arith, fits_in (day_text d) old out (flat_map line_text (from d e)) at c.sofar short, ap (λ q. length (line_text q)) is)
+  -- there is room for the next line
+  pub line_fits : at + length (line_text l) ≤ length out
+  line_fits =
+      let size = ap (λ q. length (flat_map line_text q)) is ∙ length-append (line_text l) (flat_map line_text more) in
+      omega (arith, fits_in (day_text d) old out (flat_map line_text ls) at so short)
 
   -- one line more, at the front of what lay past the text so far
-  pub placing_next : {l : Line} {next : Expectation} → Follows e l next → l ≡ line_due d e → (new : List ℕ) → new ≡ take at out ++ (line_text l ++ drop (length (line_text l)) (drop at out)) → Placing next d old new (at + length (line_text l))
-  placing_next {l} {next} f is new e' = record {
-    range = range_next f d is (good_line e d l v c.range is).0 c.range;
-    sofar = subst (λ q. Sofar (day_text d) old q (flat_map line_text (from d next)) (at + length (line_text l))) (sym e') (part_written (day_text d) old out (flat_map line_text (from d e)) at c.sofar short (line_text l) (flat_map line_text (from d next)) (length (line_text l)) (ap (flat_map line_text) (step_from f d is c.range)) refl);
-  }
+  pub line_written : (new : List ℕ) → new ≡ take at out ++ (line_text l ++ drop (length (line_text l)) (drop at out)) → Sofar (day_text d) old new (flat_map line_text more) (at + length (line_text l))
+  line_written new e =
+      subst (λ q. Sofar (day_text d) old q (flat_map line_text more) (at + length (line_text l))) (sym e)
+      (part_written (day_text d) old out (flat_map line_text ls) at so short (line_text l) (flat_map line_text more) (length (line_text l)) (ap (flat_map line_text) is) refl)
 
-pub placing_all : (e : Expectation) (d : Day) (old out : List ℕ) (at : ℕ) → e ≡ due.Nothing → Placing e d old out at → (at ≡ length (day_text d)) × (out ≡ day_text d ++ drop (length (day_text d)) old)
-placing_all e d old out at is c =
-    let s = (subst (λ q. Placing q d old out at) is c).sofar in
-    (written_size (day_text d) old out [] at s refl, all_written (day_text d) old out [] at s refl)
+pub none_written : (d : Day) (old : List ℕ) → Sofar (day_text d) old old (flat_map line_text (from d due.Day)) 0
+unfolding day_text
+none_written d old = nothing_yet (day_text d) old
 
 -- a slice of which the part from `at` on was written to
 module _ (out piece : List ℕ) (at : ℕ) (inside : at + length piece ≤ length out) where
@@ -174,3 +154,5 @@ module _ (out piece : List ℕ) (at : ℕ) (inside : at + length piece ≤ lengt
   tail_written last is =
       let none : drop (length out - at) (drop at out) ≡ [] = drop_all (length out - at) (drop at out) (omega (arith, length-drop at out)) in
       ap (λ q. take at out ++ (last ++ q)) none ∙ ap (λ q. take at out ++ q) (append-nil last ∙ is ∙ cond-true _ _ _ has_room ∙ ap (λ q. piece ++ drop (length piece) q) part_all)
+
+pub ruleset walking = (step_from, range_next)

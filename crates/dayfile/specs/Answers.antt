@@ -1,5 +1,5 @@
 -- What reading and writing a day answer, and what the tables and the buffer then hold. Assumes nothing.
-use Rattle.std.specs.Prelude.{◌≡◌, ℕ, suc, ◌<◌, ◌≤◌, true, false, List, ◌∷◌, ◌++◌, length, drop, replicate, Ok, Err, Result, ◌≢◌}
+use Rattle.std.specs.Prelude.{◌≡◌, ℕ, suc, ◌<◌, ◌≤◌, true, false, List, ◌∷◌, ◌++◌, length, drop, replicate, codes, decimal, Ok, Err, Result, ◌≢◌}
 use Rattle.std.specs.List.{flat_map}
 use Rattle.records.specs.declared.Head.{Head}
 use Rattle.records.specs.declared.Stop.{Stop}
@@ -33,7 +33,7 @@ read_number (read.Bounds line) = 4
 read_number (read.Turn line) = 5
 read_number (read.Trailing line) = 6
 
--- the line that it names; 0 where the text was not looked at
+-- the line that it names, or 0
 abbrev pub read_line : ReadRefusal → ℕ
 read_line read.TooLong = 0
 read_line read.OtherTables = 0
@@ -46,6 +46,17 @@ abbrev pub write_number : WriteRefusal → ℕ
 write_number write.OtherTables = 2
 write_number write.Figures = 7
 write_number write.ShortBuffer = 8
+
+-- what each refusal is printed as
+abbrev pub unread_text : ReadRefusal → List ℕ
+unread_text r = codes "(unread " ++ decimal (read_number r) ++ codes " " ++ decimal (read_line r) ++ codes ")"
+
+abbrev pub unwritten_text : WriteRefusal → List ℕ
+unwritten_text r = codes "(unwritten " ++ decimal (write_number r) ++ codes ")"
+
+abbrev pub refusal_text : CopyRefusal → List ℕ
+refusal_text (copy.Unread r) = unread_text r
+refusal_text (copy.Unwritten r) = unwritten_text r
 
 abbrev pub Sized : List Stop → List Leg → Type 0
 Sized ss ls = (length ss ≡ 41) × (length ls ≡ 1681)

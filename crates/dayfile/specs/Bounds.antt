@@ -1,9 +1,11 @@
 -- The bounds of every number of a day file, and what a line has to keep beside them. Assumes nothing.
-use Rattle.std.specs.Prelude.{ℕ, Bool, true, ◌&&◌, nat_le}
+use Rattle.std.specs.Prelude.{ℕ, Bool, true, ◌&&◌, Some, None, Option, nat_le}
 use Rattle.records.specs.declared.Stop.{Stop}
 use Rattle.records.specs.declared.Leg.{Leg}
 use Rattle.lines.specs.declared.line.Line.{Line}
 use Rattle.lines.specs.declared.line.Line.TheVariants as line
+use Rattle.dayfile.specs.declared.bounds.Subject.{Subject}
+use Rattle.dayfile.specs.declared.bounds.Subject.TheVariants as about
 
 -- a time, in seconds
 abbrev pub is_time : ℕ → Bool
@@ -56,16 +58,16 @@ ordered (line.Stop number s) = nat_le s.opens s.closes
 ordered (line.Leg i j l) = true
 ordered line.End = true
 
--- the numbers that tell which stop or which leg a line is about; zeros where it is about neither
-abbrev pub subject : Line → ℕ × ℕ
-subject line.Day = (0, 0)
-subject (line.Depot opens closes) = (0, 0)
-subject (line.Capacity crates) = (0, 0)
-subject (line.Drive seconds) = (0, 0)
-subject (line.TravelBudget most) = (0, 0)
-subject (line.ServeBudget most) = (0, 0)
-subject (line.DemandBudget most) = (0, 0)
-subject (line.Stops count) = (0, 0)
-subject (line.Stop number s) = (number, 0)
-subject (line.Leg i j l) = (i, j)
-subject line.End = (0, 0)
+-- the stop or the leg that a line is about; none where it is about neither
+abbrev pub subject : Line → Option Subject
+subject line.Day = None
+subject (line.Depot opens closes) = None
+subject (line.Capacity crates) = None
+subject (line.Drive seconds) = None
+subject (line.TravelBudget most) = None
+subject (line.ServeBudget most) = None
+subject (line.DemandBudget most) = None
+subject (line.Stops count) = None
+subject (line.Stop number s) = Some (about.Stop number)
+subject (line.Leg i j l) = Some (about.Leg i j)
+subject line.End = None

@@ -1,5 +1,5 @@
 -- What the reader expects next: it follows from what it expected and what it got. Assumes nothing.
-use Rattle.std.specs.Prelude.{◌≡◌, ℕ, ◌+◌, Bool, true, false, cond, Some, None, Ok, Err, Option, Result, ◌==◌, ◌≢◌, nat_lt}
+use Rattle.std.specs.Prelude.{◌≡◌, ℕ, ◌+◌, true, false, cond, Some, None, Ok, Err, Option, Result, ◌==◌, ◌≢◌, nat_lt}
 use Rattle.records.specs.declared.Stop.{Stop}
 use Rattle.records.specs.declared.Leg.{Leg}
 use Rattle.lines.specs.declared.line.Form as forms
@@ -8,6 +8,8 @@ use Rattle.lines.specs.declared.line.Line.{Line}
 use Rattle.lines.specs.declared.line.Line.TheVariants as line
 use Rattle.lines.specs.Forms.{form_of}
 use Rattle.dayfile.specs.Bounds.{within, ordered, subject}
+use Rattle.dayfile.specs.declared.bounds.Subject.{Subject}
+use Rattle.dayfile.specs.declared.bounds.Subject.TheVariants as about
 use Rattle.dayfile.specs.declared.expectation.Question.{Question}
 use Rattle.dayfile.specs.declared.expectation.Question.TheVariants.{Form, Bounds, Turn}
 use Rattle.dayfile.specs.declared.expectation.Expectation.{Expectation}
@@ -29,19 +31,19 @@ form_due due.End = Some form.End
 form_due due.Nothing = None
 
 -- the stop or the leg that is due, told as a line tells it
-abbrev pub subject_due : Expectation → ℕ × ℕ
-subject_due due.Day = (0, 0)
-subject_due due.Depot = (0, 0)
-subject_due due.Capacity = (0, 0)
-subject_due due.Drive = (0, 0)
-subject_due due.TravelBudget = (0, 0)
-subject_due due.ServeBudget = (0, 0)
-subject_due due.DemandBudget = (0, 0)
-subject_due due.Stops = (0, 0)
-subject_due (due.Stop k n) = (k, 0)
-subject_due (due.Leg i j n) = (i, j)
-subject_due due.End = (0, 0)
-subject_due due.Nothing = (0, 0)
+abbrev pub subject_due : Expectation → Option Subject
+subject_due due.Day = None
+subject_due due.Depot = None
+subject_due due.Capacity = None
+subject_due due.Drive = None
+subject_due due.TravelBudget = None
+subject_due due.ServeBudget = None
+subject_due due.DemandBudget = None
+subject_due due.Stops = None
+subject_due (due.Stop k n) = Some (about.Stop k)
+subject_due (due.Leg i j n) = Some (about.Leg i j)
+subject_due due.End = None
+subject_due due.Nothing = None
 
 -- after stop k of n: the next stop, or the first leg
 abbrev pub after_stop : ℕ → ℕ → Expectation
@@ -82,18 +84,3 @@ Judged e l (Ok next) = Passes e l next
 Judged e l (Err Form) = Some (form_of l) ≡ form_due e → ⊥
 Judged e l (Err Bounds) = (Some (form_of l) ≡ form_due e) × (within l ≡ false)
 Judged e l (Err Turn) = (Some (form_of l) ≡ form_due e) × (within l ≡ true) × (subject l ≡ subject_due e → ordered l ≢ true)
-
--- whether nothing more is due
-abbrev pub is_nothing : Expectation → Bool
-is_nothing due.Day = false
-is_nothing due.Depot = false
-is_nothing due.Capacity = false
-is_nothing due.Drive = false
-is_nothing due.TravelBudget = false
-is_nothing due.ServeBudget = false
-is_nothing due.DemandBudget = false
-is_nothing due.Stops = false
-is_nothing (due.Stop k n) = false
-is_nothing (due.Leg i j n) = false
-is_nothing due.End = false
-is_nothing due.Nothing = true

@@ -4,3 +4,4 @@ pub mod Expecting
 pub mod Storing
 pub mod Answers
 pub mod Walking
+pub mod Lent

@@ -1,8 +1,9 @@
 // The bounds of every number of a day file.
 ghost use Rattle.std.specs.Prelude.{◌≡◌};
-ghost use Rattle.dayfile.specs.Bounds.{is_count, sound_stop, sound_leg, within, ordered, subject};
+ghost use Rattle.dayfile.specs.Bounds.{is_time, is_quantity, is_count, sound_stop, sound_leg, within, ordered, subject};
 
 use lines::line::Line;
+pub use records::limits::MOST_STOPS;
 use records::{Leg, Stop};
 
 // The latest time, and the longest.
@@ -14,22 +15,52 @@ pub const MOST_CRATES: u32 = 10_000;
 // The largest budget.
 pub const MOST_BUDGET: u32 = 8;
 
-// The most stops that a day has, and so the last place that a leg leads from or to.
-pub const MOST_STOPS: u32 = 40;
+// What a line tells of, beside the day as a whole.
+#[derive(Clone, Copy, PartialEq, Eq, Debug)]
+pub enum Subject {
+    // a stop's number
+    Stop(u32),
+    // the places that a leg leads from and to
+    Leg(u32, u32),
+}
+
+fn is_time(seconds: u32) -> bool
+    ensures { result ≡ is_time seconds }
+{
+    seconds <= MOST_SECONDS
+}
+
+fn is_quantity(crates: u32) -> bool
+    ensures { result ≡ is_quantity crates }
+{
+    crates <= MOST_CRATES
+}
+
+// Whether a day may have so many stops.
+pub(crate) fn is_count(stops: u32) -> bool
+    ensures { result ≡ is_count stops }
+{
+    (1..=MOST_STOPS).contains(&stops)
+}
 
 fn sound_stop(s: Stop) -> bool
     ensures { result ≡ sound_stop s }
 {
-    (s.opens <= MOST_SECONDS && s.closes <= MOST_SECONDS)
-        && ((s.serve <= MOST_SECONDS && s.serve_deviation <= MOST_SECONDS)
-            && ((s.deliver <= MOST_CRATES && s.deliver_deviation <= MOST_CRATES)
-                && ((s.pickup <= MOST_CRATES && s.pickup_deviation <= MOST_CRATES) && s.rest <= 1)))
+    is_time(s.opens)
+        && is_time(s.closes)
+        && is_time(s.serve)
+        && is_time(s.serve_deviation)
+        && is_quantity(s.deliver)
+        && is_quantity(s.deliver_deviation)
+        && is_quantity(s.pickup)
+        && is_quantity(s.pickup_deviation)
+        && s.rest <= 1
 }
 
 fn sound_leg(l: Leg) -> bool
     ensures { result ≡ sound_leg l }
 {
-    l.travel <= MOST_SECONDS && l.travel_deviation <= MOST_SECONDS
+    is_time(l.travel) && is_time(l.travel_deviation)
 }
 
 // Whether every number of the line is within its bounds.
@@ -38,14 +69,14 @@ pub fn is_within(line: Line) -> bool
 {
     match line {
         Line::Day | Line::End => true,
-        Line::Depot(opens, closes) => opens <= MOST_SECONDS && closes <= MOST_SECONDS,
-        Line::Capacity(crates) => crates <= MOST_CRATES,
-        Line::Drive(seconds) => seconds <= MOST_SECONDS,
+        Line::Depot(opens, closes) => is_time(opens) && is_time(closes),
+        Line::Capacity(crates) => is_quantity(crates),
+        Line::Drive(seconds) => is_time(seconds),
         Line::TravelBudget(most) | Line::ServeBudget(most) | Line::DemandBudget(most) => most
             <= MOST_BUDGET,
-        Line::Stops(count) => 1 <= count && count <= MOST_STOPS,
+        Line::Stops(count) => is_count(count),
         Line::Stop(_, stop) => sound_stop(stop),
-        Line::Leg(i, j, leg) => (i <= MOST_STOPS && j <= MOST_STOPS) && sound_leg(leg),
+        Line::Leg(i, j, leg) => i <= MOST_STOPS && j <= MOST_STOPS && sound_leg(leg),
     }
 }
 
@@ -60,13 +91,13 @@ pub fn is_ordered(line: Line) -> bool
     }
 }
 
-// The numbers that tell which stop or which leg the line is about.
-pub fn subject_of(line: Line) -> (u32, u32)
+// The stop or the leg that the line is about; none where it is about neither.
+pub fn subject_of(line: Line) -> Option<Subject>
     ensures { result ≡ subject line }
 {
     match line {
-        Line::Stop(number, _) => (number, 0),
-        Line::Leg(i, j, _) => (i, j),
-        _ => (0, 0),
+        Line::Stop(number, _) => Some(Subject::Stop(number)),
+        Line::Leg(i, j, _) => Some(Subject::Leg(i, j)),
+        _ => None,
     }
 }

@@ -15,11 +15,6 @@ pub fn copy_day(
 ) -> Result<usize, CopyRefusal>
     ensures { Copied text.now stops.old legs.old buffer.old result stops.new legs.new buffer.new }
 {
-    match read(text, stops, legs) {
-        Ok(head) => match write(head, stops, legs, buffer) {
-            Ok(length) => Ok(length),
-            Err(refusal) => Err(CopyRefusal::Unwritten(refusal)),
-        },
-        Err(refusal) => Err(CopyRefusal::Unread(refusal)),
-    }
+    let head = read(text, stops, legs)?;
+    Ok(write(head, stops, legs, buffer)?)
 }

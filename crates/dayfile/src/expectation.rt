@@ -1,6 +1,6 @@
 // What the reader expects next.
 
-#[derive(Clone, Copy)]
+#[derive(Clone, Copy, PartialEq, Eq, Debug)]
 pub enum Expectation {
     Day,
     Depot,
@@ -20,7 +20,7 @@ pub enum Expectation {
 }
 
 // What is asked of a line, in this order.
-#[derive(Clone, Copy)]
+#[derive(Clone, Copy, PartialEq, Eq, Debug)]
 pub enum Question {
     // is it of the form that is due here?
     Form,

@@ -3,7 +3,7 @@ ghost use Rattle.std.specs.Prelude.{◌≡◌, Some, MatchOption, ◌≢◌};
 ghost use Rattle.lines.specs.Forms.{form_of};
 ghost use Rattle.dayfile.specs.Expecting.{form_due, subject_due, after_stop, after_row, after_leg, Follows, Judged};
 
-use crate::bounds::{is_ordered, is_within, subject_of};
+use crate::bounds::{Subject, is_ordered, is_within, subject_of};
 use crate::expectation::{Expectation, Question};
 use lines::line::Line;
 
@@ -47,6 +47,7 @@ fn after_leg(i: u32, j: u32, n: u32) -> Expectation
 }
 
 // What is due after a line, or none where the line is not of the form due.
+#[tactic(auto, using(crate::proofs::Following::following))]
 pub fn after(due: Expectation, line: Line) -> Option<Expectation>
     ensures { MatchOption result (Some (form_of line) ≢ form_due due) (λ next. Follows due line next) }
 {
@@ -66,29 +67,26 @@ pub fn after(due: Expectation, line: Line) -> Option<Expectation>
     }
 }
 
-fn subject_due(due: Expectation) -> (u32, u32)
+fn subject_due(due: Expectation) -> Option<Subject>
     ensures { result ≡ subject_due due }
 {
     match due {
-        Expectation::Stop(k, _) => (k, 0),
-        Expectation::Leg(i, j, _) => (i, j),
-        _ => (0, 0),
+        Expectation::Stop(k, _) => Some(Subject::Stop(k)),
+        Expectation::Leg(i, j, _) => Some(Subject::Leg(i, j)),
+        _ => None,
     }
 }
 
 // What is due after a line that stands where it does, or the first question that it answers no.
+#[tactic(auto, using(crate::proofs::Following::judging))]
 pub fn judge(due: Expectation, line: Line) -> Result<Expectation, Question>
     ensures { Judged due line result }
 {
-    let Some(next) = after(due, line) else {
-        return Err(Question::Form);
-    };
+    let next = after(due, line).ok_or(Question::Form)?;
     if !is_within(line) {
         return Err(Question::Bounds);
     }
-    let (a, b) = subject_of(line);
-    let (c, d) = subject_due(due);
-    if a == c && b == d && is_ordered(line) {
+    if subject_of(line) == subject_due(due) && is_ordered(line) {
         Ok(next)
     } else {
         Err(Question::Turn)

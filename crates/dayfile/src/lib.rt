@@ -4,6 +4,7 @@
 
 pub mod bounds;
 pub mod copier;
+mod day;
 pub mod expectation;
 pub mod judge;
 pub mod reader;

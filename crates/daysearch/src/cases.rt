@@ -3,8 +3,6 @@ use records::step::Step;
 use records::{Leg, Stop};
 use resource::limits::MARK_BYTES;
 use std::alloc::{AllocError, Global};
-use stranger::FREE;
-use words::figures::{DEMAND, SERVE, TRAVEL};
 
 // A generator of figures: a linear congruence, of which the high bits are taken.
 #[derive(Clone, Copy)]
@@ -30,16 +28,6 @@ impl Random {
     }
 }
 
-// The piles that are tried.
-#[derive(Clone, Copy)]
-pub enum Shape {
-    TravelOverTime,
-    ServeOverTravelOverTime,
-    TravelTwiceOverTime,
-    Product,
-    FreeOverTravelTwiceOverTally,
-}
-
 #[derive(Clone, Copy)]
 pub struct Budget {
     pub class: u8,
@@ -59,21 +47,10 @@ pub struct Figures {
 // A route, the marks that the list holds beforehand, and a pile, its layers the outermost first.
 #[derive(Drop)]
 pub struct Case {
-    pub shape: Shape,
     pub steps: Vec<Step>,
     pub given: Vec<u8>,
     pub layers: Vec<Budget>,
     pub figures: Figures,
-}
-
-fn classes(heap: Global, shape: Shape) -> Result<Vec<u8>, AllocError> {
-    match shape {
-        Shape::TravelOverTime => Vec::from_slice(heap, &[TRAVEL]),
-        Shape::ServeOverTravelOverTime => Vec::from_slice(heap, &[SERVE, TRAVEL]),
-        Shape::TravelTwiceOverTime => Vec::from_slice(heap, &[TRAVEL, TRAVEL]),
-        Shape::Product => Vec::from_slice(heap, &[TRAVEL, SERVE, DEMAND]),
-        Shape::FreeOverTravelTwiceOverTally => Vec::from_slice(heap, &[FREE, TRAVEL, TRAVEL]),
-    }
 }
 
 fn make_step(random: &mut Random) -> Step {
@@ -118,22 +95,25 @@ fn make_steps(heap: Global, random: &mut Random) -> Result<Vec<Step>, AllocError
 // A mark list that has marks on some of the steps, and after them bytes that no call may touch.
 fn make_marks(heap: Global, random: &mut Random, steps: usize) -> Result<Vec<u8>, AllocError> {
     let mut marks = Vec::new(heap);
-    for i in 0..MARK_BYTES {
-        if i >= steps {
-            marks.push(85)?;
-        } else if random.below(8) == 0 {
-            marks.push(random.byte())?;
+    for _ in 0..steps {
+        let mark = if random.below(8) == 0 {
+            random.byte()
         } else {
-            marks.push(0)?;
-        }
+            0
+        };
+        marks.push(mark)?;
     }
+    marks.resize(MARK_BYTES, 85)?;
     Ok(marks)
 }
 
-fn make_layers(heap: Global, random: &mut Random, shape: Shape) -> Result<Vec<Budget>, AllocError> {
-    let classes = classes(heap, shape)?;
+fn make_layers(
+    heap: Global,
+    random: &mut Random,
+    classes: &[u8],
+) -> Result<Vec<Budget>, AllocError> {
     let mut layers = Vec::new(heap);
-    for class in classes.iter() {
+    for class in classes {
         layers.push(Budget {
             class: *class,
             most: random.below(4),
@@ -157,13 +137,13 @@ fn make_figures(random: &mut Random) -> Figures {
     }
 }
 
-pub fn make_case(heap: Global, random: &mut Random, shape: Shape) -> Result<Case, AllocError> {
+// A case for a pile whose layers have these classes, the outermost first.
+pub fn make_case(heap: Global, random: &mut Random, classes: &[u8]) -> Result<Case, AllocError> {
     let steps = make_steps(heap, random)?;
     let given = make_marks(heap, random, steps.len())?;
-    let layers = make_layers(heap, random, shape)?;
+    let layers = make_layers(heap, random, classes)?;
     let figures = make_figures(random);
     Ok(Case {
-        shape,
         steps,
         given,
         layers,

@@ -1,17 +1,9 @@
-// What the resources accept, said once more without rows.
-use crate::cases::{Case, Shape};
+// What the resources accept, said once more without rows. It shares nothing with them, not the figures under marks either,
+// so that it can judge them.
 use records::step::Step;
+use resource::figures::{DEMAND, SERVE, TRAVEL};
+use resource::rows::CEILING;
 use stranger::FREE;
-use words::figures::{DEMAND, SERVE, TRAVEL};
-use words::rows::CEILING;
-
-// The mark of step i.
-pub fn at(marks: &[u8], i: usize) -> u8 {
-    match marks.get(i) {
-        Some(mark) => *mark,
-        None => 0,
-    }
-}
 
 // A figure, with its deviation where it is marked.
 fn figure(planned: u32, deviation: u32, marked: bool) -> u64 {
@@ -54,13 +46,13 @@ fn pickup(step: &Step, mark: u8) -> u64 {
     )
 }
 
-fn in_time(beginning: u32, steps: &[Step], marks: &[u8]) -> bool {
+pub fn in_time(beginning: u32, steps: &[Step], marks: &[u8]) -> bool {
     let mut hour = beginning as u64;
-    for (i, step) in steps.iter().enumerate() {
-        let arrival = hour.saturating_add(travel(step, at(marks, i)));
+    for (step, mark) in steps.iter().zip(marks) {
+        let arrival = hour.saturating_add(travel(step, *mark));
         hour = arrival
             .max(step.stop.opens as u64)
-            .saturating_add(serve(step, at(marks, i)));
+            .saturating_add(serve(step, *mark));
         if arrival > step.stop.closes as u64 || hour > CEILING as u64 {
             return false;
         }
@@ -70,29 +62,29 @@ fn in_time(beginning: u32, steps: &[Step], marks: &[u8]) -> bool {
 
 fn to_deliver(steps: &[Step], marks: &[u8]) -> u64 {
     let mut sum = 0u64;
-    for (i, step) in steps.iter().enumerate() {
-        sum = sum.saturating_add(deliver(step, at(marks, i)));
+    for (step, mark) in steps.iter().zip(marks) {
+        sum = sum.saturating_add(deliver(step, *mark));
     }
     sum
 }
 
 // The van sets out with all that it is to deliver.
-fn has_room(capacity: u32, steps: &[Step], marks: &[u8]) -> bool {
+pub fn has_room(capacity: u32, steps: &[Step], marks: &[u8]) -> bool {
     let mut load = to_deliver(steps, marks);
     let mut greatest = load;
-    for (i, step) in steps.iter().enumerate() {
+    for (step, mark) in steps.iter().zip(marks) {
         load = load
-            .saturating_sub(deliver(step, at(marks, i)))
-            .saturating_add(pickup(step, at(marks, i)));
+            .saturating_sub(deliver(step, *mark))
+            .saturating_add(pickup(step, *mark));
         greatest = greatest.max(load);
     }
     greatest <= capacity as u64
 }
 
-fn rests_in_time(drive: u32, steps: &[Step], marks: &[u8]) -> bool {
+pub fn rests_in_time(drive: u32, steps: &[Step], marks: &[u8]) -> bool {
     let mut driven = 0u64;
-    for (i, step) in steps.iter().enumerate() {
-        driven = driven.saturating_add(travel(step, at(marks, i)));
+    for (step, mark) in steps.iter().zip(marks) {
+        driven = driven.saturating_add(travel(step, *mark));
         if driven > drive as u64 {
             return false;
         }
@@ -103,34 +95,11 @@ fn rests_in_time(drive: u32, steps: &[Step], marks: &[u8]) -> bool {
     true
 }
 
-fn few_enough(stops: u32, late: u32, steps: &[Step], marks: &[u8]) -> bool {
-    let mut late_legs = 0u32;
-    for i in 0..steps.len() {
-        if at(marks, i) & TRAVEL != 0 || at(marks, i) & FREE != 0 {
-            late_legs = late_legs.saturating_add(1);
-        }
-    }
-    steps.len() <= stops as usize && late_legs <= late
-}
-
-// Whether the resource under the pile accepts the route with marks.
-pub fn accepts(case: &Case, marks: &[u8]) -> bool {
-    let figures = case.figures;
-    let steps = case.steps.as_slice();
-    match case.shape {
-        Shape::TravelOverTime => in_time(figures.beginning, steps, marks),
-        Shape::ServeOverTravelOverTime => in_time(figures.beginning, steps, marks),
-        Shape::TravelTwiceOverTime => in_time(figures.beginning, steps, marks),
-        Shape::Product => {
-            in_time(figures.beginning, steps, marks)
-                && has_room(figures.capacity, steps, marks)
-                && rests_in_time(figures.drive, steps, marks)
-        }
-        Shape::FreeOverTravelTwiceOverTally => few_enough(
-            figures.stops,
-            figures.late,
-            steps,
-            marks,
-        ),
-    }
+pub fn few_enough(stops: u32, late: u32, steps: &[Step], marks: &[u8]) -> bool {
+    let late_legs = marks
+        .iter()
+        .take(steps.len())
+        .filter(|mark| **mark & (TRAVEL | FREE) != 0)
+        .count();
+    steps.len() <= stops as usize && late_legs <= late as usize
 }

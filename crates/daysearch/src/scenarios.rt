@@ -1,7 +1,6 @@
 // All scenarios of a case, in their order. A choice of sets is a number: its highest bits are the outermost layer's set,
 // and in a set the first step has the highest bit. So the numbers from 0 on are in the order of the scenarios.
 use crate::cases::Case;
-use crate::rules::accepts;
 use std::alloc::{AllocError, Global};
 
 pub fn count(number: usize) -> u32 {
@@ -17,45 +16,47 @@ fn bits(case: &Case) -> u32 {
 fn is_scenario(case: &Case, choice: u32) -> bool {
     let steps = count(case.steps.len());
     let all = 1u32.wrapping_shl(steps).saturating_sub(1);
-    let mut place = bits(case);
-    for layer in case.layers.iter() {
-        place = place.saturating_sub(steps);
-        let set = choice.wrapping_shr(place) & all;
-        if set.count_ones() > layer.most {
+    let mut sets = choice;
+    for layer in case.layers.iter().rev() {
+        if (sets & all).count_ones() > layer.most {
             return false;
         }
+        sets = sets.wrapping_shr(steps);
     }
     true
 }
 
 // The classes of the layers whose set has step i.
 fn chosen_marks(case: &Case, choice: u32, i: u32) -> u8 {
-    let mut marks = 0u8;
-    let mut place = bits(case).saturating_sub(i).saturating_sub(1);
-    for layer in case.layers.iter() {
-        if choice.wrapping_shr(place) & 1 == 1 {
-            marks = marks | layer.class;
+    let steps = count(case.steps.len());
+    let mut sets = choice.wrapping_shr(steps.saturating_sub(i).saturating_sub(1));
+    let mut marks = 0;
+    for layer in case.layers.iter().rev() {
+        if sets & 1 == 1 {
+            marks |= layer.class;
         }
-        place = place.saturating_sub(count(case.steps.len()));
+        sets = sets.wrapping_shr(steps);
     }
     marks
 }
 
 // The mark list of a scenario: its marks and those given.
 fn scenario_list(heap: Global, case: &Case, choice: u32) -> Result<Vec<u8>, AllocError> {
-    let mut list = Vec::new(heap);
-    for (i, given) in case.given.iter().enumerate() {
-        if i < case.steps.len() {
-            list.push(*given | chosen_marks(case, choice, count(i)))?;
-        } else {
-            list.push(*given)?;
-        }
+    let mut list = Vec::from_slice(heap, case.given.as_slice())?;
+    for (i, mark) in list.iter_mut().take(case.steps.len()).enumerate() {
+        *mark |= chosen_marks(case, choice, count(i));
     }
     Ok(list)
 }
 
 // The mark list of the first scenario in which the route is refused.
-pub fn search(heap: Global, case: &Case) -> Result<Option<Vec<u8>>, AllocError> {
+pub fn search<F: Fn(&Case, &[u8]) -> bool>(
+    heap: Global,
+    case: &Case,
+    accepts: &F,
+) -> Result<Option<Vec<u8>>, AllocError>
+    requires { F.IsAlwaysCallable accepts.now }
+{
     for choice in 0..1u32.wrapping_shl(bits(case)) {
         if is_scenario(case, choice) {
             let list = scenario_list(heap, case, choice)?;

@@ -3,9 +3,9 @@ use Rattle.std.specs.Prelude.{ℕ, ◌+◌, Bool, cond, List, [], ◌∷◌, ◌
 use Rattle.records.specs.declared.step.Step.{Step}
 use Rattle.resource.specs.Rows.{Extension}
 use Rattle.resource.specs.Scenarios.{Accepts}
-use Rattle.words.specs.Days.{throughout}
-use Rattle.words.specs.Figures.{travel}
-use Rattle.words.specs.Words.{recursion}
+use Rattle.resource.specs.Days.{throughout}
+use Rattle.resource.specs.Figures.{travel}
+use Rattle.resource.specs.Words.{recursion}
 
 -- the greatest limit of the driving time
 abbrev pub greatest_limit : ℕ

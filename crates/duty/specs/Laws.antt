@@ -4,9 +4,9 @@ use Rattle.std.proofs.Common.{ap, ◌∙◌, arith}
 use Rattle.std.proofs.lemmas.Bool.Decides.{nat_tests}
 use Rattle.records.specs.declared.step.Step.{Step}
 use Rattle.resource.specs.Rows.{Lawful, run}
-use Rattle.words.specs.Words.{greater, sound}
-use Rattle.words.proofs.Joins.{Joinable, recursion_lawful, get_d_greater, leb_max}
-use Rattle.words.proofs.Routes.{run_throughout}
+use Rattle.resource.specs.Words.{greater, sound}
+use Rattle.resource.proofs.Joins.{Joinable, recursion_lawful, get_d_greater, leb_max}
+use Rattle.resource.proofs.Routes.{run_throughout}
 use Rattle.duty.specs.Driving.{greatest_limit, driven_of, driven, after_stop, within_limit, driving, rests_in_time}
 
 driven-join : (s : Step) (m a b : ℕ) → driven s m (max a b) ≡ max (driven s m a) (driven s m b)

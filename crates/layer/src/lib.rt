@@ -12,11 +12,14 @@ ghost use Rattle.layered.proofs.Widths.{fits};
 ghost use Rattle.layered.proofs.Laws.{layered_lawful};
 ghost use Rattle.layered.proofs.Piles.{layered_judges};
 
+use crate::rows::Rows;
 use records::step::Step;
 use resource::interface::Resource;
-use resource::limits::{MARK_BYTES, MOST_STEPS, TOO_WIDE, WIDEST, WORK_ROWS};
+use resource::limits::{TOO_WIDE, WIDEST};
+use resource::questions::ask_route;
 use resource::refusal::Refusal;
 
+mod calls;
 mod days;
 mod rows;
 
@@ -27,7 +30,7 @@ const GREATEST_BUDGET: u32 = 8;
 // budget, from none to all of it.
 #[derive(Drop)]
 pub struct Layer<B> {
-    // one bit of a byte: the mark that the layer sets on a step
+    // one bit of a byte: the mark that the layer sets on a step; a number, since five of the bits have no name
     class: u8,
     // the most steps of a route that it marks
     budget: usize,
@@ -92,8 +95,7 @@ impl<B: Resource> Resource for Layer<B> {
     }
 
     fn write_start(&self, into: &mut [u32]) -> Result<(), Refusal> {
-        let wide = self.ask_rows(into.len(), into.len())?;
-        self.start_rows(wide, into)
+        self.ask_rows(into.len(), into.len())?.write_start(into)
     }
 
     fn extend(
@@ -103,8 +105,8 @@ impl<B: Resource> Resource for Layer<B> {
         from: &[u32],
         into: &mut [u32],
     ) -> Result<(), Refusal> {
-        let wide = self.ask_rows(from.len(), into.len())?;
-        self.extend_layer(step, marks, wide, from, into)
+        self.ask_rows(from.len(), into.len())?
+            .extend(step, marks, from, into)
     }
 
     fn extend_onto(
@@ -114,19 +116,17 @@ impl<B: Resource> Resource for Layer<B> {
         from: &[u32],
         onto: &mut [u32],
     ) -> Result<(), Refusal> {
-        let wide = self.ask_rows(from.len(), onto.len())?;
-        self.extend_layer_onto(step, marks, wide, from, onto)
+        self.ask_rows(from.len(), onto.len())?
+            .extend_onto(step, marks, from, onto)
     }
 
     fn join_onto(&self, from: &[u32], onto: &mut [u32]) -> Result<(), Refusal> {
-        let wide = self.ask_rows(from.len(), onto.len())?;
-        self.join_rows(wide, from, onto)
+        self.ask_rows(from.len(), onto.len())?.join_onto(from, onto)
     }
 
     fn judge(&self, row: &[u32]) -> Result<bool, Refusal> {
-        let wide = self.ask_rows(row.len(), row.len())?;
-        let at = self.row_begin(self.budget, wide);
-        self.below.judge(&row[at..at + wide])
+        let rows = self.ask_rows(row.len(), row.len())?;
+        self.below.judge(rows.row(self.budget, row))
     }
 
     fn first_day(
@@ -137,17 +137,10 @@ impl<B: Resource> Resource for Layer<B> {
     ) -> Result<bool, Refusal> {
         let wide = self.below.row_width();
         let width = (self.budget + 1) * wide;
-        if width > WIDEST {
-            return Err(Refusal::TooWide);
-        }
-        if steps.len() > MOST_STEPS {
-            return Err(Refusal::TooManySteps);
-        }
-        if work.len() < WORK_ROWS * width || marks.len() < MARK_BYTES {
-            return Err(Refusal::TooLittleRoom);
-        }
+        ask_route(width, steps.len(), marks.len(), work.len())?;
+        let rows = Rows { layer: self, wide };
         // the layer's own marks first: the scenarios are ordered by the outermost layer
-        if !self.choose_day(steps, &mut marks[..steps.len()], wide, work)? {
+        if !rows.choose_day(steps, &mut marks[..steps.len()], work)? {
             return Ok(false);
         }
         self.below.first_day(steps, marks, work)

@@ -4,12 +4,7 @@ use lib.Bits.{bit_or}
 use Rattle.records.specs.declared.step.Step.{Step}
 use Rattle.resource.specs.Rows.{Extension, Lawful}
 use Rattle.layered.specs.Layered.{Join, Numbered, row_at, rows, join_lower, next_row, layered_start, layered_extension, layered_join, layered_verdict}
-use Rattle.layered.proofs.Numbers.{Sized, Keeps, length-rows, row_at-rows, rows_same, length-row_at}
-
--- row by row, each from what it was
-pub join_lower_own : (join : Join) (f lower : Numbered) (g : ℕ) → join_lower join (λ _. f g) lower g ≡ join_lower join f lower g
-join_lower_own join f lower zero = refl
-join_lower_own join f lower (suc g) = refl
+use Rattle.layered.proofs.Numbers.{Sized, length-rows, row_at-rows, rows_same, length-row_at}
 
 join_lower_at : (join : Join) (f h lower : Numbered) (g : ℕ) → f g ≡ h g → join_lower join f lower g ≡ join_lower join h lower g
 join_lower_at join f h lower zero same = same
@@ -22,10 +17,6 @@ module _ {w : ℕ} {start : List ℕ} {ext : Extension} {join : Join} {verdict :
       laws.join_associative a b (join c d) la lb (laws.join_width c d lc ld)
       ∙ ap (join a) (sym (laws.join_associative b c d lb lc ld) ∙ ap (λ z. join z d) (laws.join_commutative b c lb lc) ∙ laws.join_associative c b d lc lb ld)
       ∙ sym (laws.join_associative a c (join b d) la lc (laws.join_width b d lb ld))
-
-  pub join_lower_keeps : (n : ℕ) (lower : Numbered) → Sized w n lower → Keeps w n (λ g y. join_lower join (λ _. y) lower g)
-  join_lower_keeps n lower sized zero y h long = long
-  join_lower_keeps n lower sized (suc g) y h long = laws.join_width y (lower g) long (sized g (omega arith))
 
   module _ (class : ℕ) where
     pub next_row_sized : (n : ℕ) (s : Step) (m : ℕ) (f : Numbered) → Sized w n f → Sized w n (next_row ext join class s m f)

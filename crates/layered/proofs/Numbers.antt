@@ -1,9 +1,11 @@
--- Rows by their number: what the rows of a layer's row are, and how a loop changes them one by one. Assumes nothing.
-use Rattle.std.proofs.Common.{◌≡◌, ℕ, zero, suc, ◌+◌, ◌-◌, ◌*◌, ◌<◌, ◌≤◌, List, ◌++◌, length, take, drop, sym, refl, ap, ◌∙◌, ⊎_elim, append_assoc, mul-le-mul_right, suc-mul, zero-add, zero-mul, arith}
+-- Rows by their number: what the rows of a layer's row are, and what a write to one of them leaves. Assumes nothing.
+use Rattle.std.proofs.Common.{◌≡◌, ℕ, zero, suc, ◌+◌, ◌-◌, ◌*◌, ◌<◌, ◌≤◌, List, ◌++◌, length, take, drop, sym, refl, ap, ◌∙◌, ⊎_elim, append_assoc, mul-le-mul_right, suc-mul, zero-mul, arith}
 use borrow.Rule.Slice.PartMut.{put_mid}
-use Rattle.std.proofs.lemmas.List.{length-append, length-take, length-drop, take-append-le, drop-append-le, take_at, drop_at, take_all, drop-drop, drop_all, append-nil, take-append-drop}
+use Rattle.std.proofs.lemmas.List.{length-append, length-take, length-drop, take-append-le, drop-append-le, take_at, drop_at, take_all, drop-drop, append-nil, drop-take, take-take}
+use Rattle.std.proofs.Math.Seq.{take-add}
+use Rattle.std.proofs.lemmas.Slice.{take-put_mid_below, drop-put_mid}
 use Rattle.std.proofs.lemmas.Bool.{cases_order}
-use Rattle.layered.specs.Layered.{Numbered, row_at, rows}
+use Rattle.layered.specs.Layered.{Numbered, row_at, rows, join_lower}
 
 -- every row has w words, up to number n
 abbrev pub Sized : ℕ → ℕ → Numbered → Type 0
@@ -41,46 +43,55 @@ pub length-row_at : (w n : ℕ) (x : List ℕ) → length x ≡ n * w → Sized 
 length-row_at w n x long g h =
     length-take w (drop (g * w) x) ∙ omega (arith, length-drop (g * w) x, room w n g h)
 
--- The first g rows of a row changed, each by a function of its number and of what it was. A loop that changes row
--- number g next has changed one row more.
-abbrev pub Change : Type 0
-Change = ℕ → List ℕ → List ℕ
-
-abbrev pub changed : ℕ → Change → List ℕ → ℕ → List ℕ
-changed w F x g = rows g (λ k. F k (row_at w x k)) ++ drop (g * w) x
-
--- each change keeps the width, up to number n
-abbrev pub Keeps : ℕ → ℕ → Change → Type 0
-Keeps w n F = (g : ℕ) (y : List ℕ) → g < n → length y ≡ w → length (F g y) ≡ w
-
-module _ (w n : ℕ) (F : Change) (x : List ℕ) (long : length x ≡ n * w) (keeps : Keeps w n F) where
-  sized : Sized w n (λ k. F k (row_at w x k))
-  sized k h = keeps k (row_at w x k) h (length-row_at w n x long k h)
-
-  changed_more : (g : ℕ) (y : List ℕ) → g < n → y ≡ changed w F x g → take (g * w) y ++ (F g (row_at w y g) ++ drop w (drop (g * w) y)) ≡ changed w F x (suc g)
-  changed_more g y h was =
-      let front = rows g (λ k. F k (row_at w x k)) in
-      let long-front : length front ≡ g * w = length-rows w g (λ k. F k (row_at w x k)) (λ k l. sized k (omega arith)) in
-      let rest : drop (g * w) y ≡ drop (g * w) x = ap (drop (g * w)) was ∙ drop_at front (drop (g * w) x) (g * w) long-front in
-      let first : take (g * w) y ≡ front = ap (take (g * w)) was ∙ take_at front (drop (g * w) x) (g * w) long-front in
-      let past : drop w (drop (g * w) x) ≡ drop (suc g * w) x = drop-drop w (g * w) x ∙ ap (λ k. drop k x) (sym (suc-mul g w)) in
-      rw (rest, first) (ap (λ z. front ++ (F g (row_at w x g) ++ z)) past ∙ sym (append_assoc front (F g (row_at w x g)) (drop (suc g * w) x)))
-
-  -- the same as the loop writes it, to the part from a on
-  pub changed_put : (g next a k : ℕ) (y new : List ℕ) → next ≡ suc g → a ≡ g * w → k ≡ w → g < n → y ≡ changed w F x g → new ≡ F g (row_at w y g) → put_mid a k y new ≡ changed w F x next
-  changed_put g next a k y new follows begins long-part h was is-new =
-      rw (begins, long-part, is-new, follows) (changed_more g y h was)
-
-  pub changed_all : (g : ℕ) (y : List ℕ) → g ≡ n → y ≡ changed w F x g → y ≡ rows n (λ k. F k (row_at w x k))
-  changed_all g y all was =
-      was ∙ ap (changed w F x) all ∙ ap (λ z. rows n (λ k. F k (row_at w x k)) ++ z) (drop_all (n * w) x (omega arith)) ∙ append-nil (rows n (λ k. F k (row_at w x k)))
-
--- where row 0 stays, a loop may begin with row 1
-pub changed_first : (w : ℕ) (F : Change) (x : List ℕ) → F 0 (row_at w x 0) ≡ row_at w x 0 → changed w F x 1 ≡ x
-changed_first w F x stays =
-    ap (λ z. z ++ drop (1 * w) x) stays
-    ∙ rw (suc-mul, zero-mul, zero-add) (take-append-drop w x)
-
 -- `&x[a..e]`, where it is a row
 pub row_part : (w g a e : ℕ) (x : List ℕ) → a ≡ g * w → e ≡ a + w → take (e - a) (drop a x) ≡ row_at w x g
 row_part w g a e x begins ends = let long : e - a ≡ w = omega arith in rw (long, begins)
+
+-- A write to the part of a row that begins at a changes that row number alone.
+module _ (w g a k : ℕ) (y new : List ℕ) (begins : a ≡ g * w) (part : k ≡ w) (inside : a + w ≤ length y) (sized : length new ≡ w) where
+  start : drop (g * w) (put_mid a k y new) ≡ new ++ drop k (drop a y)
+  start = ap (λ n. drop n (put_mid a k y new)) (sym begins) ∙ drop_at (take a y) (new ++ drop k (drop a y)) a (length-take a y ∙ omega arith)
+
+  pub put_there : row_at w (put_mid a k y new) g ≡ new
+  put_there = ap (take w) start ∙ take_at new (drop k (drop a y)) w sized
+
+  pub put_below : (j : ℕ) → j < g → row_at w (put_mid a k y new) j ≡ row_at w y j
+  put_below j h =
+      let before = room w g j h in
+      sym (drop-take (j * w) w (put_mid a k y new))
+      ∙ ap (drop (j * w)) (take-put_mid_below a k y new (j * w + w) (omega arith) (omega arith))
+      ∙ drop-take (j * w) w y
+
+  pub put_above : (j : ℕ) → g < j → row_at w (put_mid a k y new) j ≡ row_at w y j
+  put_above j h =
+      let after = room w j g h in
+      ap (take w) (drop-put_mid a k y new (j * w) (omega arith) (omega arith) (omega arith))
+
+rows_of_front : (w n : ℕ) (x : List ℕ) → take (n * w) x ≡ rows n (row_at w x)
+rows_of_front w zero x = rw (zero-mul w) refl
+rows_of_front w (suc n) x = ap (λ k. take k x) (suc-mul n w) ∙ take-add (n * w) w x ∙ ap (λ z. z ++ row_at w x n) (rows_of_front w n x)
+
+-- a row is its rows, one behind the other
+pub rows_of_whole : (w n : ℕ) (x : List ℕ) (f : Numbered) → length x ≡ n * w → ((g : ℕ) → g < n → row_at w x g ≡ f g) → x ≡ rows n f
+rows_of_whole w n x f long same = sym (take_all (n * w) x (omega arith)) ∙ rows_of_front w n x ∙ rows_same n (row_at w x) f same
+
+-- the first row, and the others, of which each has one number less among themselves
+pub rows_first : (n : ℕ) (f : Numbered) → rows (suc n) f ≡ f 0 ++ rows n (λ g. f (suc g))
+rows_first zero f = sym (append-nil (f 0))
+rows_first (suc n) f = ap (λ z. z ++ f (suc n)) (rows_first n f) ∙ append_assoc (f 0) (rows n (λ g. f (suc g))) (f (suc n))
+
+pub row_at-drop : (w : ℕ) (x : List ℕ) (g : ℕ) → row_at w (drop w x) g ≡ row_at w x (suc g)
+row_at-drop w x g = ap (take w) (drop-drop (g * w) w x ∙ ap (λ k. drop k x) (omega (arith, suc-mul g w)))
+
+pub row_at-take : (w n : ℕ) (x : List ℕ) (g : ℕ) → g < n → row_at w (take (n * w) x) g ≡ row_at w x g
+row_at-take w n x g h =
+    sym (drop-take (g * w) w (take (n * w) x))
+    ∙ ap (drop (g * w)) (take-take (g * w + w) (n * w) x (room w n g h))
+    ∙ drop-take (g * w) w x
+
+-- What a loop adds to the rows but row 0, from the rows with one number less.
+pub lower_added : (w n : ℕ) (join : List ℕ → List ℕ → List ℕ) (e : List ℕ → List ℕ) (from onto : List ℕ) → take w onto ++ rows n (λ g. join (row_at w (drop w onto) g) (e (row_at w (take (n * w) from) g))) ≡ rows (suc n) (join_lower join (row_at w onto) (λ g. e (row_at w from g)))
+lower_added w n join e from onto =
+    sym (rows_first n (join_lower join (row_at w onto) (λ g. e (row_at w from g)))
+    ∙ ap (λ k. take w (drop k onto) ++ rows n (λ g. join (row_at w onto (suc g)) (e (row_at w from g)))) (zero-mul w)
+    ∙ ap (λ z. take w onto ++ z) (rows_same n _ _ (λ g h. sym (ap (λ y. join y (e (row_at w (take (n * w) from) g))) (row_at-drop w onto g) ∙ ap (λ y. join (row_at w onto (suc g)) (e y)) (row_at-take w n from g h)))))

@@ -1,8 +1,7 @@
 -- What a route makes of a layer's rows: the verdict on row number g is yes exactly when the resource below accepts the
 -- route on each day that at most g marks make. Assumes nothing.
-use Rattle.std.proofs.Common.{◌≡◌, ℕ, zero, suc, ◌+◌, ◌*◌, ◌<◌, ◌≤◌, Bool, true, false, ◌&&◌, List, [], ◌∷◌, ◌++◌, map, length, get_or, drop, sym, refl, ap, ◌∙◌, ap₂, arith}
+use Rattle.std.proofs.Common.{◌≡◌, ℕ, zero, suc, ◌*◌, ◌<◌, Bool, true, false, ◌&&◌, List, [], ◌∷◌, ◌++◌, map, length, sym, refl, ap, ◌∙◌, arith}
 use lib.Bits.{bit_or}
-use Rattle.std.proofs.lemmas.List.{drop_more, drop_all}
 use Rattle.records.specs.declared.step.Step.{Step}
 use Rattle.resource.specs.Rows.{Extension, Lawful, run}
 use Rattle.resource.specs.Scenarios.{every}
@@ -148,13 +147,3 @@ module _ {w : ℕ} {start : List ℕ} {ext : Extension} {join : Join} {verdict :
     verdict_of_run ss ms x same long g h =
         ap verdict (row_at_run ss ms (rows (suc most) (λ k. x)) (λ k. x) (length-rows w (suc most) (λ k. x) (λ k l. long)) (λ k. long) (row_at-rows w (suc most) (λ k. x) (λ k l. long)) g h)
         ∙ run_accepted ss ms x same long g
-
--- a loop over a route: what is left of it, one step on and at the end
-pub run_more : (ext : Extension) (ss : List Step) (ms : List ℕ) (i : ℕ) (d : Step) (x y : List ℕ) → i < length ss → length ms ≡ length ss → y ≡ ext (get_or ss i d) (get_or ms i 0) x
-    → run ext (drop (i + 1) ss) (drop (i + 1) ms) y ≡ run ext (drop i ss) (drop i ms) x
-run_more ext ss ms i d x y h same is =
-    ap (run ext (drop (i + 1) ss) (drop (i + 1) ms)) is
-    ∙ sym (ap₂ (λ ts ns. run ext ts ns x) (drop_more ss i d h) (drop_more ms i 0 (omega arith)))
-
-pub run_all : (ext : Extension) (ss : List Step) (ms : List ℕ) (i : ℕ) (x : List ℕ) → length ss ≤ i → run ext (drop i ss) (drop i ms) x ≡ x
-run_all ext ss ms i x h = ap (λ ts. run ext ts (drop i ms) x) (drop_all i ss h)

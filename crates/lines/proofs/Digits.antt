@@ -1,11 +1,11 @@
 -- Numbers in base ten: what digits write, and that a number's digits are read back. Assumes nothing.
-use Rattle.std.proofs.Common.{◌≡◌, ℕ, zero, suc, ◌+◌, ◌-◌, ◌*◌, ◌/◌, ◌%◌, ◌^◌, ◌<◌, ◌≤◌, true, false, cond, eqb, List, [], ◌∷◌, ◌++◌, length, get_or, take, drop, set, Some, None, decimal, sym, refl, ap, ◌∙◌, subst, ⊎_elim, arith, length-append, length-drop, rules}
+use Rattle.std.proofs.Common.{◌≡◌, ℕ, zero, suc, ◌+◌, ◌-◌, ◌*◌, ◌^◌, ◌<◌, ◌≤◌, true, false, eqb, List, [], ◌∷◌, ◌++◌, length, get_or, take, drop, Some, decimal, sym, refl, ap, ◌∙◌, subst, ⊎_elim, arith, rules}
 use Rattle.std.specs.Char.{is_ascii_digit}
 use Rattle.std.specs.Str.{all_ascii_digits}
 use Rattle.std.proofs.lemmas.Str.Parse.{IsNumeralModel, numerals_by_fold, digits_value_short}
-use Rattle.std.proofs.lemmas.Fmt.{decimal-digits_value, digits_value-decimal, digits_decimal, length-decimal-le, decimal_nonempty, first_decimal, decimal_digit, decimal_step}
-use Rattle.std.proofs.lemmas.Bool.{and_parts, or_cases, not-true, not_from_false, leb-true, eqb-true, eqb-false, le-leb, eq-eqb, ne_eqb, and_from, or_left, or_right, cases_order, cases_lt, cases_Bool, cond-true, cond-false}
-use Rattle.std.proofs.lemmas.List.{take_at, drop_at, take-append-drop, at_drop_more, length_push, drop-set, append_assoc}
+use Rattle.std.proofs.lemmas.Fmt.{decimal-digits_value, digits_value-decimal, digits_decimal, length-decimal-le, decimal_nonempty, first_decimal, decimal_digit}
+use Rattle.std.proofs.lemmas.Bool.{and_parts, or_cases, not-true, not_from_false, leb-true, eqb-true, eqb-false, le-leb, eq-eqb, ne_eqb, and_from, or_left, or_right, cases_order, cases_Bool, cond-true, cond-false}
+use Rattle.std.proofs.lemmas.List.{take_at, drop_at, take-append-drop, at_drop_more}
 use Rattle.lines.specs.Numerals.{read_on, digit_run, in_form, number_at}
 
 pub own : IsNumeralModel (λ ds. all_ascii_digits ds ≡ true) (read_on 0)
@@ -30,10 +30,6 @@ digits_of_run (c ∷ cs) =
     (λ e. rw e (and_from _ _ e (digits_of_run cs)))
     (λ e. rw e refl)
     (cases_Bool (is_ascii_digit c))
-
-pub digit_run_le : (t : List ℕ) → digit_run t ≤ length t
-digit_run_le [] = omega arith
-digit_run_le (c ∷ cs) = ⊎_elim (λ e. rw e (omega (arith, digit_run_le cs))) (λ e. rw e (omega arith)) (cases_Bool (is_ascii_digit c))
 
 -- a run of digits ends where another byte stands
 pub digit_run_stops : (ds : List ℕ) (c : ℕ) (t : List ℕ) → all_ascii_digits ds ≡ true → is_ascii_digit c ≡ false → digit_run (ds ++ c ∷ t) ≡ length ds
@@ -85,23 +81,16 @@ number_complete n c t small e =
     let back : drop (digit_run (decimal n ++ c ∷ t)) (decimal n ++ c ∷ t) ≡ c ∷ t = drop_at (decimal n) (c ∷ t) _ (sym stops) in
     rw (front, back, numeral_in_form n small, digits_value-decimal own n (omega arith)) refl
 
--- one step of the loop that counts a run of digits
-pub digit_run-more : (t : List ℕ) (n : ℕ) → n < length t → is_ascii_digit (get_or t n 0) ≡ true → digit_run (drop n t) ≡ suc (digit_run (drop (n + 1) t))
-digit_run-more t n h e =
-    let here : digit_run (drop n t) ≡ cond (is_ascii_digit (get_or t n 0)) (suc (digit_run (drop (n + 1) t))) 0 = at_drop_more digit_run t n 0 h in
-    here ∙ cond-true _ _ _ e
+-- a run of digits goes on over a digit, and ends before another byte
+pub digit_run_here : (c : ℕ) (t : List ℕ) → is_ascii_digit c ≡ false → digit_run (c ∷ t) ≡ 0
+digit_run_here c t e = cond-false _ _ _ e
 
-pub digit_run-none : (t : List ℕ) (n : ℕ) → n < length t → is_ascii_digit (get_or t n 0) ≡ false → digit_run (drop n t) ≡ 0
-digit_run-none t n h e =
-    let here : digit_run (drop n t) ≡ cond (is_ascii_digit (get_or t n 0)) (suc (digit_run (drop (n + 1) t))) 0 = at_drop_more digit_run t n 0 h in
-    here ∙ cond-false _ _ _ e
+pub digit_run_next : (c : ℕ) (t : List ℕ) → is_ascii_digit c ≡ true → digit_run (c ∷ t) ≡ digit_run t + 1
+digit_run_next c t e = cond-true _ _ _ e ∙ omega arith
 
 -- one step of the loop that reads digits
 pub read_on-more : (n : ℕ) (ds : List ℕ) (i : ℕ) → i < length ds → read_on n (drop i ds) ≡ read_on (10 * n + (get_or ds i 0 - 48)) (drop (i + 1) ds)
 read_on-more n ds i h = at_drop_more (read_on n) ds i 0 h
-
-pub length_decimal_step : (n : ℕ) → 10 ≤ n → n < 2 ^ 32 → length (decimal n) ≡ length (decimal (n / 10)) + 1
-length_decimal_step n h small = ap length (decimal_step n h (omega arith)) ∙ length_push (decimal (n / 10)) _
 
 pub ten_digits : (n : ℕ) → n < 2 ^ 32 → length (decimal n) ≤ 10
 ten_digits n small = length-decimal-le 10 n (omega arith) (omega arith) (omega arith)
@@ -114,22 +103,6 @@ room n ds i h kept digits short =
     let small = value_small ds digits short in
     omega arith
 
--- One step of the loop that writes digits from the last one on: the digits of `rest` and those written make up a number.
-pub digit_written : (rest at : ℕ) (out ds : List ℕ) → rest < 2 ^ 32 → at < length out → length out ≡ length ds → decimal rest ++ drop (at + 1) out ≡ ds →
-    (0 < at → decimal (rest / 10) ++ drop at (set out at (48 + rest % 10)) ≡ ds) × (at ≡ 0 → set out at (48 + rest % 10) ≡ ds)
-digit_written rest at out ds small within long e =
-    let left = simp (length-append, length-drop) at (ap length e) in
-    let stored = drop-set out at (48 + rest % 10) within in (
-      λ p.
-          let many : 10 ≤ rest = ⊎_elim (λ l. absurd (omega (arith, ap length (decimal_digit rest l)))) (λ g. g) (cases_lt rest 10) in
-          ap (λ q. decimal (rest / 10) ++ q) stored ∙ sym (append_assoc (decimal (rest / 10)) ((48 + rest % 10) ∷ []) (drop (at + 1) out)) ∙ ap (λ q. q ++ drop (at + 1) out) (sym (decimal_step rest many (omega arith))) ∙ e,
-      λ z.
-          let one : rest < 10 = ⊎_elim (λ l. l) (λ g. absurd (omega (arith, length_decimal_step rest g small, decimal_nonempty (rest / 10) (omega arith)))) (cases_lt rest 10) in
-          let last : 48 + rest % 10 ≡ 48 + rest = omega arith in
-          subst (λ k. drop k (set out at (48 + rest % 10)) ≡ ds) z
-          (stored ∙ ap (λ d. d ∷ drop (at + 1) out) last ∙ ap (λ q. q ++ drop (at + 1) out) (sym (decimal_digit rest one)) ∙ e),
-    )
+pub ruleset reading = (room, digit_at)
 
--- what is read of a text that is cut after its run of digits
-pub number_told : (t ds r : List ℕ) (n : ℕ) → n ≡ digit_run t → ds ≡ take n t → r ≡ drop n t → number_at t ≡ cond (in_form ds) (Some (read_on 0 ds, r)) None
-number_told t ds r n run front back = rw (front, back, run) refl
+pub ruleset runs = (digits_of_run, and_parts, leb-true)

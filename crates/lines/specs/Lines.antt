@@ -1,6 +1,6 @@
 -- What a text begins with: a line in form, and what stands after it. Assumes nothing.
-use Rattle.std.specs.Prelude.{◌≡◌, ℕ, List, [], ◌∷◌, ◌++◌, replicate, Some, None, Option, slice_index}
-use Rattle.std.specs.Option.{option_map}
+use Rattle.std.specs.Prelude.{◌≡◌, ℕ, List, [], ◌∷◌, ◌++◌, Some, None, Option, slice_index}
+use Rattle.std.specs.Option.{option_map, option_or}
 use Rattle.lines.specs.declared.line.Form.{Form}
 use Rattle.lines.specs.declared.line.Form.TheVariants.{Day, Depot, Capacity, Drive, TravelBudget, ServeBudget, DemandBudget, Stops, Stop, Leg, End}
 use Rattle.lines.specs.declared.line.Line.{Line}
@@ -45,15 +45,11 @@ line_of End ns = line.End
 abbrev pub forms : List Form
 forms = Day ∷ Depot ∷ Capacity ∷ Drive ∷ TravelBudget ∷ ServeBudget ∷ DemandBudget ∷ Stops ∷ Stop ∷ Leg ∷ End ∷ []
 
-abbrev pub or_else : {X : Type 0} → Option X → Option X → Option X
-or_else None o = o
-or_else (Some x) o = Some x
-
 -- the line of one form that a text begins with
 abbrev pub as_form : Form → List ℕ → Option (Line × List ℕ)
-as_form f t = option_map (λ p. (line_of f p.0, p.1)) (scanned (template f) 0 (replicate 10 0) t)
+as_form f t = option_map (λ p. (line_of f p.0, p.1)) (scanned (template f) [] t)
 
 -- the line that a text begins with, by the first of some forms whose template it fits
 abbrev pub first_line : List Form → List ℕ → Option (Line × List ℕ)
 first_line [] t = None
-first_line (f ∷ fs) t = or_else (as_form f t) (first_line fs t)
+first_line (f ∷ fs) t = option_or (as_form f t) (first_line fs t)

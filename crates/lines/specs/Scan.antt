@@ -1,5 +1,6 @@
 -- How a text is compared with a template, byte by byte: a step on the way to the text of a line. Assumes nothing.
-use Rattle.std.specs.Prelude.{ℕ, suc, cond, List, [], ◌∷◌, Some, None, Option, ◌==◌, slice_set}
+use Rattle.std.specs.Prelude.{ℕ, suc, cond, List, [], ◌∷◌, ◌++◌, Some, None, Option, ◌==◌}
+use Rattle.std.specs.Option.{option_and_then}
 use Rattle.lines.specs.Numerals.{number_at}
 
 -- how many numbers a template asks for
@@ -12,16 +13,11 @@ abbrev pub after_byte : ℕ → List ℕ → Option (List ℕ)
 after_byte c [] = None
 after_byte c (b ∷ t) = cond (b == c) (Some t) None
 
--- what a value that was found leads to
-abbrev pub and_then : {X Y : Type 0} → Option X → (X → Option Y) → Option Y
-and_then None f = None
-and_then (Some x) f = f x
-
--- The numbers that a text has in the places of a template, number k first, and what stands after it; none where the text
--- does not begin as the template does.
-abbrev pub scanned : List ℕ → ℕ → List ℕ → List ℕ → Option (List ℕ × List ℕ)
-scanned [] k ns t = Some (ns, t)
-scanned (c ∷ p) k ns t =
+-- The numbers that a text has in the places of a template, after the numbers ns that were read before it, and what stands
+-- after it; none where the text does not begin as the template does.
+abbrev pub scanned : List ℕ → List ℕ → List ℕ → Option (List ℕ × List ℕ)
+scanned [] ns t = Some (ns, t)
+scanned (c ∷ p) ns t =
     cond (c == 35)
-    (and_then (number_at t) (λ found. scanned p (suc k) (slice_set ns k found.0) found.1))
-    (and_then (after_byte c t) (λ rest. scanned p k ns rest))
+    (option_and_then (λ found. scanned p (ns ++ found.0 ∷ []) found.1) (number_at t))
+    (option_and_then (scanned p ns) (after_byte c t))

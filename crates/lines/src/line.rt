@@ -1,14 +1,15 @@
 // The lines that a day file is made of.
-ghost use Rattle.std.specs.Prelude.{◌≡◌};
+ghost use Rattle.std.specs.Prelude.{◌≡◌, length};
 ghost use Rattle.std.specs.Option.{option_map};
+ghost use Rattle.lines.specs.Scan.{holes};
 ghost use Rattle.lines.specs.Forms.{template};
 ghost use Rattle.lines.specs.Lines.{line_of, as_form, Parsed};
 
 use crate::scan::scan;
 use records::{Leg, Stop};
 
-// What a line says, with the numbers left out.
-#[derive(Clone, Copy)]
+// What a line says, with the numbers left out. Not one type with `Line`: a form is looked for before there are numbers.
+#[derive(Clone, Copy, PartialEq, Eq, Debug)]
 pub enum Form {
     Day,
     Depot,
@@ -23,7 +24,7 @@ pub enum Form {
     End,
 }
 
-#[derive(Clone, Copy)]
+#[derive(Clone, Copy, PartialEq, Eq, Debug)]
 pub enum Line {
     Day,
     Depot(u32, u32),
@@ -78,8 +79,9 @@ impl Form {
         }
     }
 
-    fn line(self, numbers: [u32; MOST_FIGURES]) -> Line
-        ensures { result ≡ line_of self numbers }
+    fn line(self, numbers: &[u32]) -> Line
+        requires { length numbers.now ≡ holes (template self) }
+        ensures { result ≡ line_of self numbers.now }
     {
         match self {
             Form::Day => Line::Day,
@@ -120,20 +122,13 @@ impl Form {
 fn parse_as(form: Form, text: &[u8]) -> Option<(Line, &[u8])>
     ensures { option_map (λ p. (p.0, p.1.now)) result ≡ as_form form text.now }
 {
-    let mut numbers = [0; MOST_FIGURES];
-    let rest = scan(form.template(), text, &mut numbers)?;
-    Some((form.line(numbers), rest))
+    let (numbers, rest) = scan(form.template(), text)?;
+    Some((form.line(&numbers), rest))
 }
 
 // The line that the text begins with, and what stands after it; none where it begins with no line in form.
 pub fn parse(text: &[u8]) -> Option<(Line, &[u8])>
     ensures { Parsed text.now (option_map (λ p. (p.0, p.1.now)) result) }
 {
-    for form in FORMS {
-        let found = parse_as(form, text);
-        if found.is_some() {
-            return found;
-        }
-    }
-    None
+    FORMS.iter().find_map(|form| parse_as(*form, text))
 }

@@ -1,13 +1,40 @@
 // The text of a line, written into memory of the caller.
-ghost use Rattle.std.specs.Prelude.{◌≡◌, ◌-◌, ◌≤◌, ◌++◌, length, drop, replicate, if◌then◌else◌, Some, None, nat_le};
+ghost use Rattle.std.specs.Prelude.{◌≡◌, ◌-◌, ◌≤◌, ◌++◌, length, drop, if◌then◌else◌, Some, None, nat_le};
 ghost use Rattle.lines.specs.Scan.{holes};
-ghost use Rattle.lines.specs.Forms.{form_of, figures, filled, line_text};
+ghost use Rattle.lines.specs.Forms.{form_of, template, filled, line_text};
 
-use crate::line::{Form, Line, MOST_FIGURES};
-use crate::numeral::{digit_count, write_number};
+use crate::line::{Form, Line};
 use crate::scan::HOLE;
+use arrayvec::ArrayVec;
+use itoa::Buffer;
+
+// No line has more bytes than that of a stop whose ten numbers have ten digits each.
+const LONGEST_LINE: usize = 162;
+
+impl Form {
+    // The form's bytes with the numbers in their places. (Not by `Display`: that does not say when writing succeeds.)
+    fn filled(self, numbers: &[u32]) -> ArrayVec<u8, LONGEST_LINE>
+        requires { length numbers.now ≡ holes (template self) }
+        ensures { result.items ≡ filled (template self) 0 numbers.now }
+    {
+        let mut text = ArrayVec::new();
+        let mut left = numbers.iter();
+        let template = self.template();
+        for c in template {
+            if *c == HOLE {
+                let n = left.next().unwrap();
+                text.try_extend_from_slice(Buffer::new().format(*n).as_bytes())
+                    .unwrap();
+            } else {
+                text.push(*c);
+            }
+        }
+        text
+    }
+}
 
 impl Line {
+    // The line with its numbers left out: a part of it, and so no `From`.
     pub fn form(self) -> Form
         ensures { result ≡ form_of self }
     {
@@ -26,20 +53,20 @@ impl Line {
         }
     }
 
-    // The line's numbers, and zeros after them.
-    fn numbers(self) -> [u32; MOST_FIGURES]
-        ensures { result ≡ figures self ++ replicate (10 - length (figures self)) 0 }
+    fn text(self) -> ArrayVec<u8, LONGEST_LINE>
+        ensures { result.items ≡ line_text self }
     {
+        let form = self.form();
         match self {
-            Line::Day | Line::End => [0; MOST_FIGURES],
-            Line::Depot(opens, closes) => [opens, closes, 0, 0, 0, 0, 0, 0, 0, 0],
+            Line::Day | Line::End => form.filled(&[]),
+            Line::Depot(opens, closes) => form.filled(&[opens, closes]),
             Line::Capacity(n)
             | Line::Drive(n)
             | Line::TravelBudget(n)
             | Line::ServeBudget(n)
             | Line::DemandBudget(n)
-            | Line::Stops(n) => [n, 0, 0, 0, 0, 0, 0, 0, 0, 0],
-            Line::Stop(number, s) => [
+            | Line::Stops(n) => form.filled(&[n]),
+            Line::Stop(number, s) => form.filled(&[
                 number,
                 s.opens,
                 s.closes,
@@ -50,62 +77,23 @@ impl Line {
                 s.pickup,
                 s.pickup_deviation,
                 s.rest,
-            ],
-            Line::Leg(i, j, leg) => [i, j, leg.travel, leg.travel_deviation, 0, 0, 0, 0, 0, 0],
+            ]),
+            Line::Leg(i, j, leg) => form.filled(&[i, j, leg.travel, leg.travel_deviation]),
         }
     }
 }
 
-// How many bytes a template takes with these numbers in their places.
-fn filled_length(template: &[u8], numbers: &[u32]) -> usize
-    requires { (length template.now ≤ 100) × (holes template.now ≤ length numbers.now) }
-    ensures { result ≡ length (filled template.now 0 numbers.now) }
-{
-    let mut total = 0;
-    let mut used = 0;
-    for c in template {
-        if *c == HOLE {
-            total += digit_count(numbers[used]);
-            used += 1;
-        } else {
-            total += 1;
-        }
-    }
-    total
-}
-
-// Writes a template with these numbers in their places to the front of `out`.
-fn fill(template: &[u8], numbers: &[u32], out: &mut [u8])
-    requires { (holes template.now ≤ length numbers.now) × (length (filled template.now 0 numbers.now) ≤ length out.old) }
-    ensures { out.new ≡ filled template.now 0 numbers.now ++ drop (length (filled template.now 0 numbers.now)) out.old }
-{
-    let mut at = 0;
-    let mut used = 0;
-    for c in template {
-        if *c == HOLE {
-            let n = numbers[used];
-            let end = at + digit_count(n);
-            write_number(n, &mut out[at..end]);
-            at = end;
-            used += 1;
-        } else {
-            out[at] = *c;
-            at += 1;
-        }
-    }
-}
-
-// Writes the line's text to the front of `out` and gives its length, or writes nothing where there is too little room.
+// Writes the line's text to the front of `out`, memory of the caller by the rules, and gives its length, or writes nothing
+// where there is too little room.
 pub fn write_line(line: Line, out: &mut [u8]) -> Option<usize>
     ensures room { result ≡ (if nat_le (length (line_text line)) (length out.old) then Some (length (line_text line)) else None) }
     ensures bytes { out.new ≡ (if nat_le (length (line_text line)) (length out.old) then line_text line ++ drop (length (line_text line)) out.old else out.old) }
 {
-    let template = line.form().template();
-    let numbers = line.numbers();
-    let length = filled_length(template, &numbers);
+    let text = line.text();
+    let length = text.len();
     if length > out.len() {
         return None;
     }
-    fill(template, &numbers, out);
+    out[..length].copy_from_slice(&text);
     Some(length)
 }

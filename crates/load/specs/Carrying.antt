@@ -4,8 +4,8 @@ use Rattle.std.specs.Prelude.{ℕ, ◌+◌, max, Bool, true, ◌&&◌, List, [],
 use Rattle.records.specs.declared.step.Step.{Step}
 use Rattle.resource.specs.Rows.{Extension}
 use Rattle.resource.specs.Scenarios.{Accepts}
-use Rattle.words.specs.Figures.{deliver, pickup}
-use Rattle.words.specs.Words.{recursion}
+use Rattle.resource.specs.Figures.{deliver, pickup}
+use Rattle.resource.specs.Words.{recursion}
 
 -- the greatest capacity of a van
 abbrev pub greatest_capacity : ℕ

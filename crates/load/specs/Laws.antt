@@ -4,8 +4,8 @@ use Rattle.std.proofs.Common.{ap, ◌∙◌, arith, leb-true, le-leb}
 use Rattle.std.proofs.lemmas.Bool.{and_from}
 use Rattle.records.specs.declared.step.Step.{Step}
 use Rattle.resource.specs.Rows.{Lawful}
-use Rattle.words.specs.Words.{ceiling, greater, sound}
-use Rattle.words.proofs.Joins.{Joinable, recursion_lawful, get_d_greater, leb_max}
+use Rattle.resource.specs.Words.{ceiling, greater, sound}
+use Rattle.resource.proofs.Joins.{Joinable, recursion_lawful, get_d_greater, leb_max}
 use Rattle.load.specs.Carrying.{greatest_capacity, picked_of, peak_of, picked, peak, carrying}
 
 picked-join : (s : Step) (m a b : ℕ) → picked s m (max a b) ≡ max (picked s m a) (picked s m b)

@@ -3,11 +3,11 @@ use Rattle.std.specs.Prelude.{◌≡◌, ℕ, ◌+◌, ◌≤◌, max, Bool, tru
 use Rattle.std.proofs.Common.{sym, ap, ◌∙◌, arith, leb-true, le-leb}
 use Rattle.records.specs.declared.step.Step.{Step}
 use Rattle.resource.specs.Rows.{run}
-use Rattle.words.specs.Days.{throughout}
-use Rattle.words.specs.Figures.{deliver}
-use Rattle.words.specs.Words.{sound}
-use Rattle.words.proofs.Joins.{leb_max}
-use Rattle.words.proofs.Routes.{run_throughout}
+use Rattle.resource.specs.Days.{throughout}
+use Rattle.resource.specs.Figures.{deliver}
+use Rattle.resource.specs.Words.{sound}
+use Rattle.resource.proofs.Joins.{leb_max}
+use Rattle.resource.proofs.Routes.{run_throughout}
 use Rattle.load.specs.Carrying.{greatest_capacity, picked, peak, carrying, to_deliver, room_on_the_way, never_overloaded}
 use Rattle.load.specs.Laws.{joinable}
 

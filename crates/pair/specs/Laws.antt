@@ -6,7 +6,7 @@ use Rattle.std.proofs.lemmas.Bool.{and_from, cond-true}
 use Rattle.std.proofs.lemmas.Bool.Decides.{nat_tests}
 use Rattle.records.specs.declared.step.Step.{Step}
 use Rattle.resource.specs.Rows.{Extension, Lawful, run, widest}
-use Rattle.words.proofs.Joins.{and-swap}
+use Rattle.resource.proofs.Joins.{and-swap}
 use Rattle.pair.specs.Sides.{pair_width, pair_extension, pair_join, pair_verdict}
 
 -- two arguments of a function at once

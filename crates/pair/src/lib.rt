@@ -5,17 +5,17 @@
 ghost use Rattle.std.specs.Prelude.{◌≡◌, [], ◌++◌, length, ◌==◌};
 ghost use Rattle.std.proofs.Common.{sym, rules};
 ghost use Rattle.resource.specs.Answers.{row_answer};
-ghost use Rattle.words.specs.Days.{own_verdict};
+ghost use Rattle.resource.specs.Days.{own_verdict};
 ghost use Rattle.pair.specs.Sides.{pair_width, pair_extension, pair_join, pair_verdict, both_accept};
 ghost use Rattle.pair.specs.Laws.{pair_keeps, first_side, second_side, pair_lawful_at, sum_narrow, width_is};
-ghost use Rattle.resource.proofs.Unmarked.{survives_unmarked};
+ghost use Rattle.resource.specs.Unmarked.{survives_unmarked};
 
 use records::step::Step;
 use resource::interface::Resource;
 use resource::limits::{TOO_WIDE, WIDEST};
+use resource::questions::ask_rows;
 use resource::refusal::Refusal;
-use words::days::refused_as_marked;
-use words::unlayered::Unlayered;
+use resource::unlayered::Unlayered;
 
 // Two resources side by side. The verdict needs both.
 #[derive(Drop)]
@@ -31,63 +31,8 @@ impl<First: Resource, Second: Resource> Pair<First, Second> {
     {
         let first = self.first.row_width();
         let width = first + self.second.row_width();
-        if width > WIDEST {
-            return Err(Refusal::TooWide);
-        }
-        if row.len() != width {
-            return Err(Refusal::OtherWidth);
-        }
+        ask_rows(width, row.len(), row.len())?;
         Ok(first)
-    }
-}
-
-impl<First: Resource, Second: Resource> Unlayered for Pair<First, Second> {
-    ghost width = { λ p. pair_width (First.Resource.width p.first) (Second.Resource.width p.second) };
-
-    ghost start = { λ p. First.Resource.start p.first ++ Second.Resource.start p.second };
-
-    ghost extension = { λ p. pair_extension (First.Resource.width p.first) (First.Resource.extension p.first) (Second.Resource.extension p.second) };
-
-    ghost verdict = { λ p. pair_verdict (First.Resource.width p.first) (First.Resource.verdict p.first) (Second.Resource.verdict p.second) };
-
-    ghost keeps = { λ p. both_accept (own_verdict (First.Resource.verdict p.first) (First.Resource.extension p.first) (First.Resource.start p.first)) (own_verdict (Second.Resource.verdict p.second) (Second.Resource.extension p.second) (Second.Resource.start p.second)) };
-
-    ghost accepts_what_keeps = { λ p narrow ss ms.
-        let a = First.Resource.width p.first in
-        let b = Second.Resource.width p.second in
-        pair_keeps (First.Resource.lawful p.first (first_side a b narrow)) (Second.Resource.lawful p.second (second_side a b narrow)) ss ms };
-
-    fn words(&self) -> usize {
-        let width = self.first.row_width() + self.second.row_width();
-        if width > WIDEST { TOO_WIDE } else { width }
-    }
-
-    fn begin(&self, into: &mut [u32]) -> Result<(), Refusal> {
-        let at = self.split(into)?;
-        self.first.write_start(&mut into[..at])?;
-        self.second.write_start(&mut into[at..])
-    }
-
-    fn advance(
-        &self,
-        step: &Step,
-        marks: u8,
-        from: &[u32],
-        into: &mut [u32],
-    ) -> Result<(), Refusal> {
-        let at = self.split(from)?;
-        self.split(into)?;
-        self.first
-            .extend(step, marks, &from[..at], &mut into[..at])?;
-        self.second
-            .extend(step, marks, &from[at..], &mut into[at..])
-    }
-
-    fn weigh(&self, row: &[u32]) -> Result<bool, Refusal> {
-        let at = self.split(row)?;
-        let first = self.first.judge(&row[..at])?;
-        let second = self.second.judge(&row[at..])?;
-        Ok(first & second)
     }
 }
 
@@ -123,11 +68,14 @@ impl<First: Resource, Second: Resource> Resource for Pair<First, Second> {
         sym (survives_unmarked (own_verdict verdict extension (First.Resource.start p.first ++ Second.Resource.start p.second)) ss ms e) };
 
     fn row_width(&self) -> usize {
-        self.words()
+        let width = self.first.row_width() + self.second.row_width();
+        if width > WIDEST { TOO_WIDE } else { width }
     }
 
     fn write_start(&self, into: &mut [u32]) -> Result<(), Refusal> {
-        self.begin(into)
+        let at = self.split(into)?;
+        self.first.write_start(&mut into[..at])?;
+        self.second.write_start(&mut into[at..])
     }
 
     fn extend(
@@ -137,7 +85,12 @@ impl<First: Resource, Second: Resource> Resource for Pair<First, Second> {
         from: &[u32],
         into: &mut [u32],
     ) -> Result<(), Refusal> {
-        self.advance(step, marks, from, into)
+        let at = self.split(from)?;
+        self.split(into)?;
+        self.first
+            .extend(step, marks, &from[..at], &mut into[..at])?;
+        self.second
+            .extend(step, marks, &from[at..], &mut into[at..])
     }
 
     fn extend_onto(
@@ -163,7 +116,10 @@ impl<First: Resource, Second: Resource> Resource for Pair<First, Second> {
     }
 
     fn judge(&self, row: &[u32]) -> Result<bool, Refusal> {
-        self.weigh(row)
+        let at = self.split(row)?;
+        let first = self.first.judge(&row[..at])?;
+        let second = self.second.judge(&row[at..])?;
+        Ok(first & second)
     }
 
     fn first_day(
@@ -172,6 +128,16 @@ impl<First: Resource, Second: Resource> Resource for Pair<First, Second> {
         marks: &mut [u8],
         work: &mut [u32],
     ) -> Result<bool, Refusal> {
-        refused_as_marked(self, steps, marks, work)
+        let accepted = self.judge_route(steps, marks, work)?;
+        Ok(!accepted)
     }
+}
+
+impl<First: Resource, Second: Resource> Unlayered for Pair<First, Second> {
+    ghost keeps = { λ p. both_accept (own_verdict (First.Resource.verdict p.first) (First.Resource.extension p.first) (First.Resource.start p.first)) (own_verdict (Second.Resource.verdict p.second) (Second.Resource.extension p.second) (Second.Resource.start p.second)) };
+
+    ghost accepts_what_keeps = { λ p narrow ss ms.
+        let a = First.Resource.width p.first in
+        let b = Second.Resource.width p.second in
+        pair_keeps (First.Resource.lawful p.first (first_side a b narrow)) (Second.Resource.lawful p.second (second_side a b narrow)) ss ms };
 }

@@ -3,8 +3,8 @@ use Rattle.std.proofs.Common.{◌≡◌, ℕ, ◌≤◌, ◌&&◌, List, [], ◌
 use Rattle.records.specs.declared.Head.{Head}
 use Rattle.records.specs.declared.step.Step.{Step}
 use Rattle.resource.specs.Scenarios.{Accepts, Budget}
-use Rattle.words.specs.Days.{own_verdict}
-use Rattle.words.specs.Words.{sound}
+use Rattle.resource.specs.Days.{own_verdict}
+use Rattle.resource.specs.Words.{sound}
 use Rattle.time.specs.Hours.{hours, on_time}
 use Rattle.load.specs.Carrying.{carrying, never_overloaded}
 use Rattle.duty.specs.Driving.{driving, rests_in_time}

@@ -3,7 +3,7 @@ use Rattle.std.proofs.Common.{◌≡◌, ℕ, cond, leb, Some, None, Ok, refl, �
 use lib.Count.{ones}
 use Rattle.resource.specs.declared.refusal.Refusal.TheVariants.{BudgetTooGreat}
 use Rattle.std.proofs.lemmas.Bool.{cases_Bool, cond-true, cond-false}
-use Rattle.words.specs.Making.{figure_answer}
+use Rattle.resource.specs.Making.{figure_answer}
 use Rattle.layer.specs.Making.{making}
 
 pub demand_budget : (b : ℕ) → making 4 b ≡ cond (leb b 8) None (Some BudgetTooGreat)

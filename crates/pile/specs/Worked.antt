@@ -7,8 +7,8 @@ use Rattle.records.specs.Records.{no_leg, window_only}
 use Rattle.records.specs.Steps.{steps_of}
 use Rattle.resource.specs.Rows.{run}
 use Rattle.resource.specs.Scenarios.{Accepts, first_day}
-use Rattle.words.specs.Days.{own_verdict}
-use Rattle.words.specs.Words.{greater, sound}
+use Rattle.resource.specs.Days.{own_verdict}
+use Rattle.resource.specs.Words.{greater, sound}
 use Rattle.time.specs.Hours.{hours}
 use Rattle.load.specs.Carrying.{carrying}
 use Rattle.duty.specs.Driving.{driving}

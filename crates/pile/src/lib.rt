@@ -15,10 +15,10 @@ use load::Load;
 use pair::Pair;
 use records::Head;
 use records::step::Step;
+use resource::figures::{DEMAND, SERVE, TRAVEL};
 use resource::interface::Resource;
 use resource::refusal::Refusal;
 use time::Time;
-use words::figures::{DEMAND, SERVE, TRAVEL};
 
 // Travel outermost, then serve, then demand, over time beside load and duty.
 pub type ProductPile = Layer<Layer<Layer<Pair<Time, Pair<Load, Duty>>>>>;

@@ -1,7 +1,7 @@
 -- The loops over a route. Assumes nothing.
-use Rattle.std.proofs.Common.{◌≡◌, ℕ, zero, suc, ◌+◌, ◌<◌, ◌≤◌, true, false, ◌&&◌, List, [], ◌∷◌, ◌++◌, length, get_or, drop, set, sym, refl, ap, ◌∙◌, arith}
+use Rattle.std.proofs.Common.{◌≡◌, ℕ, zero, suc, ◌+◌, ◌<◌, ◌≤◌, true, List, [], ◌∷◌, ◌++◌, length, get_or, drop, set, sym, refl, ap, ◌∙◌, arith}
 use Rattle.std.proofs.lemmas.List.{drop_more, at_drop_all}
-use Rattle.std.proofs.lemmas.Bool.{and_parts, and_left, leb-true, lt-leb, le-leb, eqb-true}
+use Rattle.std.proofs.lemmas.Bool.{and_parts, leb-true, eqb-true}
 use Rattle.records.specs.declared.Stop.{Stop}
 use Rattle.records.specs.declared.Leg.{Leg}
 use Rattle.records.specs.declared.step.Step.{Step}
@@ -16,13 +16,6 @@ pub stop_at_lem : (ks : List ℕ) (i : ℕ) → i < length ks → are_stops ks �
 stop_at_lem [] i h t = absurd (omega arith)
 stop_at_lem (k ∷ ks) zero h t = leb-true k 40 (and_parts _ _ (and_parts _ _ t).0).1
 stop_at_lem (k ∷ ks) (suc i) h t = stop_at_lem ks i (omega arith) (and_parts _ _ t).1
-
--- a stop that the table does not have
-pub outside : (ks : List ℕ) (i : ℕ) → i < length ks → 41 ≤ get_or ks i 0 → in_table (drop i ks) ≡ false
-outside ks i h g = ap in_table (drop_more ks i 0 h) ∙ and_left _ _ (lt-leb (get_or ks i 0) 40 (omega arith))
-
-pub inside-more : (ks : List ℕ) (i : ℕ) → i < length ks → get_or ks i 0 < 41 → in_table (drop i ks) ≡ in_table (drop (i + 1) ks)
-inside-more ks i h g = ap in_table (drop_more ks i 0 h) ∙ ap (λ b. b && in_table (drop (i + 1) ks)) (le-leb (get_or ks i 0) 40 (omega arith))
 
 pub inside_at : (ks : List ℕ) (i : ℕ) → i < length ks → in_table ks ≡ true → get_or ks i 0 ≤ 40
 inside_at [] i h t = absurd (omega arith)
@@ -51,9 +44,9 @@ module _ (ss : List Stop) (ls : List Leg) (ks : List ℕ) (old out : List Step) 
     sofar = one_written _ _ _ _ _ w.sofar short s (steps_from ss ls k (drop (at + 1) ks)) (ap (steps_from ss ls from) (drop_more ks at 0 g) ∙ (λ i. record { leg = leg_of ls from (sym is i); stop = stop_of ss (sym is i) } ∷ steps_from ss ls (sym is i) (drop (at + 1) ks)) ∙ ap (λ q. q ∷ steps_from ss ls k (drop (at + 1) ks)) (sym e));
   }
 
-  pub walk_home : (s : Step) → at ≡ length ks → s ≡ record { leg = leg_of ls from 0; stop = window_only (stop_of ss 0).opens (stop_of ss 0).closes } → set out at s ≡ steps_from ss ls 0 ks ++ drop (length ks + 1) old
+  pub walk_home : (s : Step) → at ≡ length ks → s ≡ record { leg = leg_of ls from 0; stop = window_only (stop_of ss 0).opens (stop_of ss 0).closes } → set out (length ks) s ≡ steps_from ss ls 0 ks ++ drop (length ks + 1) old
   walk_home s all e =
-      all_written _ _ _ _ _ (one_written _ _ _ _ _ w.sofar short s [] (at_drop_all (steps_from ss ls from) ks at (omega arith) ∙ ap (λ q. q ∷ []) (sym e))) refl ∙ ap (λ n. steps_from ss ls 0 ks ++ drop n old) (length_steps ss ls 0 ks)
+      ap (λ n. set out n s) (sym all) ∙ all_written _ _ _ _ _ (one_written _ _ _ _ _ w.sofar short s [] (at_drop_all (steps_from ss ls from) ks at (omega arith) ∙ ap (λ q. q ∷ []) (sym e))) refl ∙ ap (λ n. steps_from ss ls 0 ks ++ drop n old) (length_steps ss ls 0 ks)
 
 pub steps_some : (ss : List Stop) (ls : List Leg) (ks : List ℕ) → 0 < step_count ks → (steps_from ss ls 0 ks ≡ steps_of ss ls ks) × (length ks + 1 ≡ step_count ks)
 steps_some ss ls [] h = absurd (omega arith)

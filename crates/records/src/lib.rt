@@ -2,15 +2,18 @@
 
 #![tactic(auto)]
 
+use crate::limits::MOST_STOPS;
+
 pub mod limits;
 pub mod route;
 pub mod step;
+pub mod tables;
 
 // How many records the stop table has: the depot and at most 40 stops.
-pub const STOP_RECORDS: usize = 41;
+pub const STOP_RECORDS: usize = MOST_STOPS as usize + 1;
 
 // How many records the leg table has: one for each ordered pair of places.
-pub const LEG_RECORDS: usize = 1681;
+pub const LEG_RECORDS: usize = STOP_RECORDS * STOP_RECORDS;
 
 // A stop, or the depot where it is record 0 of the stop table.
 #[derive(Clone, Copy, PartialEq, Eq, Debug, Default)]
@@ -27,7 +30,7 @@ pub struct Stop {
     // what is picked up, and by how much it may grow
     pub pickup: u32,
     pub pickup_deviation: u32,
-    // whether the driver rests here: 0 is no, all else is yes
+    // whether the driver rests here: 0 is no, all else is yes; by the rules it is a figure as the others
     pub rest: u32,
 }
 

@@ -1,11 +1,12 @@
 // The steps of a route, from the tables.
 ghost use Rattle.std.specs.Prelude.{◌≡◌, ◌+◌, ◌≤◌, true, ◌++◌, length, drop, if◌then◌else◌, Some, None};
 ghost use Rattle.records.specs.Records.{window_only};
-ghost use Rattle.records.specs.Steps.{step_count, steps_from, steps_of, in_table, steps_fit, is_stop, tables_fit};
+ghost use Rattle.records.specs.Steps.{step_count, steps_from, steps_of, in_table, steps_fit, is_stop};
 
 use crate::limits::MOST_STOPS;
 use crate::step::Step;
-use crate::{LEG_RECORDS, Leg, STOP_RECORDS, Stop};
+use crate::tables::Tables;
+use crate::{Leg, STOP_RECORDS, Stop};
 
 // A record that has a window and nothing else.
 pub fn window_only(opens: u32, closes: u32) -> Stop
@@ -14,39 +15,21 @@ pub fn window_only(opens: u32, closes: u32) -> Stop
     Stop {
         opens,
         closes,
-        serve: 0,
-        serve_deviation: 0,
-        deliver: 0,
-        deliver_deviation: 0,
-        pickup: 0,
-        pickup_deviation: 0,
-        rest: 0,
+        ..Stop::default()
     }
-}
-
-// Whether the tables have 41 and 1,681 records.
-pub fn do_tables_fit(stops: &[Stop], legs: &[Leg]) -> bool
-    ensures { result ≡ tables_fit stops.now legs.now }
-{
-    stops.len() == STOP_RECORDS && legs.len() == LEG_RECORDS
 }
 
 // Whether a number is that of a stop, and not of the depot.
 pub fn is_stop(number: u32) -> bool
     ensures { result ≡ is_stop number }
 {
-    number >= 1 && number <= MOST_STOPS
+    (1..=MOST_STOPS).contains(&number)
 }
 
 fn is_in_table(route: &[u32]) -> bool
     ensures { result ≡ in_table route.now }
 {
-    for k in route {
-        if *k as usize >= STOP_RECORDS {
-            return false;
-        }
-    }
-    true
+    route.iter().all(|k| *k <= MOST_STOPS)
 }
 
 // How many steps a route has.
@@ -57,25 +40,23 @@ pub fn step_count(route: &[u32]) -> usize
 }
 
 // Writes the steps of a route that has stops to the front of `out`.
-fn fill_steps(route: &[u32], stops: &[Stop], legs: &[Leg], out: &mut [Step])
-    requires sized { (length stops.now ≡ 41) × (length legs.now ≡ 1681) }
+fn fill_steps(route: &[u32], tables: Tables, out: &mut [Step])
     requires inside { in_table route.now ≡ true }
     requires room { length route.now + 1 ≤ length out.old }
-    ensures { out.new ≡ steps_from stops.now legs.now 0 route.now ++ drop (length route.now + 1) out.old }
+    ensures { out.new ≡ steps_from tables.entry.stops.now tables.entry.legs.now 0 route.now ++ drop (length route.now + 1) out.old }
 {
     let mut from = 0;
-    let mut at = 0;
-    for k in route {
+    for (at, k) in route.iter().enumerate() {
         let k = *k as usize;
-        let leg = legs[STOP_RECORDS * from + k];
-        let stop = stops[k];
+        let leg = tables.legs[STOP_RECORDS * from + k];
+        let stop = tables.stops[k];
         out[at] = Step { leg, stop };
         from = k;
-        at += 1;
     }
-    let leg = legs[STOP_RECORDS * from];
-    let stop = window_only(stops[0].opens, stops[0].closes);
-    out[at] = Step { leg, stop };
+    let leg = tables.legs[STOP_RECORDS * from];
+    let depot = tables.stops[0];
+    let stop = window_only(depot.opens, depot.closes);
+    out[route.len()] = Step { leg, stop };
 }
 
 // Writes the steps of a route to the front of `out` and gives their number: one more than it has stops, or 0 where it has
@@ -85,9 +66,7 @@ pub fn write_steps(route: &[u32], stops: &[Stop], legs: &[Leg], out: &mut [Step]
     ensures count { result ≡ (if steps_fit stops.now legs.now route.now (length out.old) then Some (step_count route.now) else None) }
     ensures steps { out.new ≡ (if steps_fit stops.now legs.now route.now (length out.old) then steps_of stops.now legs.now route.now ++ drop (step_count route.now) out.old else out.old) }
 {
-    if stops.len() != STOP_RECORDS || legs.len() != LEG_RECORDS {
-        return None;
-    }
+    let tables = Tables::new(stops, legs)?;
     if !is_in_table(route) {
         return None;
     }
@@ -96,7 +75,7 @@ pub fn write_steps(route: &[u32], stops: &[Stop], legs: &[Leg], out: &mut [Step]
         return None;
     }
     if count > 0 {
-        fill_steps(route, stops, legs, out);
+        fill_steps(route, tables, out);
     }
     Some(count)
 }

@@ -1,2 +1,5 @@
 pub mod Runs
-pub mod Unmarked
+pub mod FirstDay
+mod Loops
+pub mod Joins
+pub mod Routes

@@ -23,10 +23,14 @@ abbrev pub written : {X : Type 0} → Result X Refusal → List ℕ → List ℕ
 written (Ok x) new old = new
 written (Err e) new old = old
 
--- first day: not too wide, at most 41 steps, a work slice of four widths and a mark list of 41 bytes
+-- a call on a route: not too wide, at most 41 steps, a work slice of four widths and a mark list of 41 bytes
+abbrev pub route_answer : {X : Type 0} → ℕ → ℕ → ℕ → ℕ → X → Result X Refusal
+route_answer width steps marks work x =
+    cond (nat_le width widest) (cond (nat_le steps 41) (cond (nat_le (4 * width) work && nat_le 41 marks) (Ok x) (Err TooLittleRoom)) (Err TooManySteps)) (Err TooWide)
+
+-- first day, and the verdict on a route
 abbrev pub day_answer : ℕ → ℕ → ℕ → ℕ → Bool → Result Bool Refusal
-day_answer width steps marks work found =
-    cond (nat_le width widest) (cond (nat_le steps 41) (cond (nat_le (4 * width) work && nat_le 41 marks) (Ok found) (Err TooLittleRoom)) (Err TooManySteps)) (Err TooWide)
+day_answer = route_answer
 
 -- the mark list after first day: the day's marks over its first bytes where one was found, else as it was
 abbrev pub day_list : Result Bool Refusal → Option (List ℕ) → List ℕ → List ℕ

@@ -2,3 +2,8 @@ pub mod Marks
 pub mod Rows
 pub mod Scenarios
 pub mod Answers
+pub mod Words
+pub mod Figures
+pub mod Making
+pub mod Days
+pub mod Unmarked

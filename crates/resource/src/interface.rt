@@ -5,6 +5,7 @@ ghost use Rattle.resource.specs.Rows.{Extension, Lawful, run, widest};
 ghost use Rattle.resource.specs.Scenarios.{Budget, Accepts, survives, first_day};
 ghost use Rattle.resource.specs.Answers.{row_answer, written, day_answer, day_list};
 
+use crate::questions::ask_route;
 use crate::refusal::Refusal;
 use records::step::Step;
 
@@ -57,6 +58,23 @@ pub trait Resource {
 
     fn judge(&self, row: &[u32]) -> Result<bool, Refusal>
         ensures { result ≡ row_answer (width self.now) (length row.now == width self.now) (verdict self.now row.now) };
+
+    // Whether the resource under the layers accepts the steps in every scenario, the marks in the list counting in each.
+    // What the work slice then holds is left open.
+    fn judge_route(&self, steps: &[Step], marks: &[u8], work: &mut [u32]) -> Result<bool, Refusal>
+        ensures { result ≡ day_answer (width self.now) (length steps.now) (length marks.now) (length work.old) (survives (accepts self.now) (layers self.now) steps.now (take (length steps.now) marks.now)) }
+    {
+        let width = self.row_width();
+        ask_route(width, steps.len(), marks.len(), work.len())?;
+        let (row, rest) = work.split_at_mut(width);
+        let next = &mut rest[..width];
+        self.write_start(row)?;
+        for (step, mark) in steps.iter().zip(marks) {
+            self.extend(step, *mark, row, next)?;
+            row.copy_from_slice(next);
+        }
+        self.judge(row)
+    }
 
     // Whether there is a day on which the steps are refused, the marks in the list counting in each scenario. The first
     // such day's marks are added to the list. What the work slice then holds is left open.

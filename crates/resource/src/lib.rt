@@ -3,6 +3,11 @@
 
 #![tactic(auto)]
 
+pub mod figures;
 pub mod interface;
 pub mod limits;
+pub mod questions;
+pub mod recursion;
 pub mod refusal;
+pub mod rows;
+pub mod unlayered;

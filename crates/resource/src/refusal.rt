@@ -5,33 +5,25 @@ ghost use Rattle.resource.specs.Answers.{number_of};
 #[derive(Clone, Copy, PartialEq, Eq, Debug)]
 pub enum Refusal {
     // the resource, or the pile, is too wide
-    TooWide,
+    TooWide = 11,
     // the beginning, the capacity or the limit is above its most
-    FigureTooGreat,
+    FigureTooGreat = 12,
     // the budget is above 8
-    BudgetTooGreat,
+    BudgetTooGreat = 13,
     // the class is not one bit
-    ClassNotOneBit,
+    ClassNotOneBit = 14,
     // a route has at most 41 steps
-    TooManySteps,
+    TooManySteps = 17,
     // a row is not of the resource's width
-    OtherWidth,
+    OtherWidth = 18,
     // the work slice has less than four widths, or the mark list less than 41 bytes
-    TooLittleRoom,
+    TooLittleRoom = 21,
 }
 
 impl Refusal {
     pub fn number(self) -> u32
         ensures { result ≡ number_of self }
     {
-        match self {
-            Refusal::TooWide => 11,
-            Refusal::FigureTooGreat => 12,
-            Refusal::BudgetTooGreat => 13,
-            Refusal::ClassNotOneBit => 14,
-            Refusal::TooManySteps => 17,
-            Refusal::OtherWidth => 18,
-            Refusal::TooLittleRoom => 21,
-        }
+        self as u32
     }
 }

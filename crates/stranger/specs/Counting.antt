@@ -5,7 +5,7 @@ use Rattle.resource.specs.Rows.{Extension}
 use Rattle.resource.specs.Scenarios.{Accepts}
 use Rattle.resource.specs.declared.refusal.Refusal.{Refusal}
 use Rattle.resource.specs.declared.refusal.Refusal.TheVariants.{FigureTooGreat}
-use Rattle.words.specs.Words.{recursion}
+use Rattle.resource.specs.Words.{recursion}
 
 -- the greatest limit of either number
 abbrev pub greatest_limit : ℕ

@@ -5,10 +5,10 @@ use Rattle.std.proofs.Common.{sym, ap, ◌∙◌, arith, leb-true, le-leb}
 use Rattle.std.proofs.lemmas.Bool.{and_from, and_parts}
 use Rattle.records.specs.declared.step.Step.{Step}
 use Rattle.resource.specs.Rows.{Lawful, run}
-use Rattle.words.specs.Days.{throughout}
-use Rattle.words.specs.Words.{ceiling, greater, sound}
-use Rattle.words.proofs.Joins.{Joinable, recursion_lawful, get_d_greater, within_both}
-use Rattle.words.proofs.Routes.{run_throughout}
+use Rattle.resource.specs.Days.{throughout}
+use Rattle.resource.specs.Words.{ceiling, greater, sound}
+use Rattle.resource.proofs.Joins.{Joinable, recursion_lawful, get_d_greater, within_both}
+use Rattle.resource.proofs.Routes.{run_throughout}
 use Rattle.stranger.specs.Counting.{greatest_limit, stops_of, late_of, late_legs, within_limits, counting, all_late, few_enough}
 
 larger : (n a b more : ℕ) → n ≡ max a b → n + more ≡ max (a + more) (b + more)

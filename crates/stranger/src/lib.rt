@@ -2,23 +2,18 @@
 
 #![tactic(auto)]
 
-ghost use Rattle.std.specs.Prelude.{◌≡◌, ◌≤◌, [], ◌∷◌, length, ◌==◌};
-ghost use Rattle.std.proofs.Common.{sym, rules};
-ghost use Rattle.resource.specs.Answers.{row_answer};
-ghost use Rattle.words.specs.Days.{own_verdict};
-ghost use Rattle.words.specs.Making.{figure_made};
-ghost use Rattle.words.specs.Words.{greater, sound};
+ghost use Rattle.std.specs.Prelude.{◌≡◌, ◌≤◌, [], ◌∷◌};
+ghost use Rattle.std.proofs.Common.{lit≤};
+ghost use Rattle.resource.specs.Making.{figure_made};
 ghost use Rattle.stranger.specs.Counting.{greatest_limit, limit_answer, counting, few_enough};
 ghost use Rattle.stranger.specs.Laws.{counting_keeps, counting_lawful};
-ghost use Rattle.resource.proofs.Unmarked.{survives_unmarked};
 
 use records::step::Step;
-use resource::interface::Resource;
+use resource::figures::TRAVEL;
+use resource::questions::ask_figure;
+use resource::recursion::Recursion;
 use resource::refusal::Refusal;
-use words::days::refused_as_marked;
-use words::figures::TRAVEL;
-use words::rows::{BROKEN, join_words, judge_words, write_words};
-use words::unlayered::Unlayered;
+use resource::rows::BROKEN;
 
 // The greatest limit of either number.
 pub const GREATEST_LIMIT: u32 = 1_000;
@@ -46,19 +41,36 @@ impl Tally {
         ensures stops { figure_made (λ t. t.most_stops) result ≡ limit_answer most_stops most_late most_stops }
         ensures late { figure_made (λ t. t.most_late) result ≡ limit_answer most_stops most_late most_late }
     {
-        if most_stops > GREATEST_LIMIT || most_late > GREATEST_LIMIT {
-            return Err(Refusal::FigureTooGreat);
-        }
+        let most_stops = ask_figure(GREATEST_LIMIT, most_stops)?;
+        let most_late = ask_figure(GREATEST_LIMIT, most_late)?;
         Ok(Tally {
             most_stops,
             most_late,
         })
     }
+}
+
+impl Recursion for Tally {
+    type Row = [u32; WIDTH];
+
+    ghost begins = { λ t. 0 ∷ (0 ∷ []) };
+
+    ghost extension = { λ t. counting t.most_stops t.most_late };
+
+    ghost keeps = { λ t. few_enough t.most_stops t.most_late };
+
+    ghost narrow = { λ t. lit≤ tt };
+
+    ghost lawful = { λ t. counting_lawful t.most_stops t.most_late t.few_stops t.few_late };
+
+    ghost accepts_what_keeps = { λ t. counting_keeps t.most_stops t.most_late t.few_stops t.few_late };
+
+    fn first(&self) -> [u32; WIDTH] {
+        [0; WIDTH]
+    }
 
     // The numbers after the step's stop; the broken row where one is above its limit.
-    fn count(&self, step: &Step, marks: u8, stops: u32, late: u32) -> [u32; WIDTH]
-        ensures { result ≡ counting self.now.most_stops self.now.most_late step.now marks (stops ∷ (late ∷ [])) }
-    {
+    fn next(&self, step: &Step, marks: u8, [stops, late]: [u32; WIDTH]) -> [u32; WIDTH] {
         let new_stops = stops as u64 + 1;
         let new_late = late as u64 + if marks & LATE == 0 { 0 } else { 1 };
         // a word above the ceiling is above every limit, so it needs no test of its own
@@ -67,118 +79,5 @@ impl Tally {
         } else {
             [new_stops as u32, new_late as u32]
         }
-    }
-
-    // The row after the step; 18 where the row before has not two words.
-    fn next(&self, step: &Step, marks: u8, from: &[u32]) -> Result<[u32; WIDTH], Refusal>
-        ensures { result ≡ row_answer 2 (length from.now == 2) (counting self.now.most_stops self.now.most_late step.now marks from.now) }
-    {
-        let [stops, late] = from else {
-            return Err(Refusal::OtherWidth);
-        };
-        Ok(self.count(step, marks, *stops, *late))
-    }
-}
-
-impl Unlayered for Tally {
-    ghost width = { λ t. 2 };
-
-    ghost start = { λ t. 0 ∷ (0 ∷ []) };
-
-    ghost extension = { λ t. counting t.most_stops t.most_late };
-
-    ghost verdict = { λ t. sound };
-
-    ghost keeps = { λ t. few_enough t.most_stops t.most_late };
-
-    ghost accepts_what_keeps = { λ t narrow ss ms. counting_keeps t.most_stops t.most_late t.few_stops t.few_late ss ms };
-
-    fn words(&self) -> usize {
-        WIDTH
-    }
-
-    fn begin(&self, into: &mut [u32]) -> Result<(), Refusal> {
-        write_words(&[0, 0], into)
-    }
-
-    fn advance(
-        &self,
-        step: &Step,
-        marks: u8,
-        from: &[u32],
-        into: &mut [u32],
-    ) -> Result<(), Refusal> {
-        write_words(&self.next(step, marks, from)?, into)
-    }
-
-    fn weigh(&self, row: &[u32]) -> Result<bool, Refusal> {
-        judge_words(WIDTH, row)
-    }
-}
-
-impl Resource for Tally {
-    ghost width = { λ t. 2 };
-
-    ghost start = { λ t. 0 ∷ (0 ∷ []) };
-
-    ghost extension = { λ t. counting t.most_stops t.most_late };
-
-    ghost join = { λ t. greater };
-
-    ghost verdict = { λ t. sound };
-
-    ghost layers = { λ t. [] };
-
-    ghost accepts = { λ t. own_verdict sound (counting t.most_stops t.most_late) (0 ∷ (0 ∷ [])) };
-
-    ghost bounded = { Prim.search rules };
-
-    ghost lawful = { λ t narrow. counting_lawful t.most_stops t.most_late t.few_stops t.few_late };
-
-    ghost judges_every_scenario = { λ t narrow ss ms e. sym (survives_unmarked (own_verdict sound (counting t.most_stops t.most_late) (0 ∷ (0 ∷ []))) ss ms e) };
-
-    fn row_width(&self) -> usize {
-        self.words()
-    }
-
-    fn write_start(&self, into: &mut [u32]) -> Result<(), Refusal> {
-        self.begin(into)
-    }
-
-    fn extend(
-        &self,
-        step: &Step,
-        marks: u8,
-        from: &[u32],
-        into: &mut [u32],
-    ) -> Result<(), Refusal> {
-        self.advance(step, marks, from, into)
-    }
-
-    fn extend_onto(
-        &self,
-        step: &Step,
-        marks: u8,
-        from: &[u32],
-        onto: &mut [u32],
-    ) -> Result<(), Refusal> {
-        join_words(WIDTH, &self.next(step, marks, from)?, onto)
-    }
-
-    fn join_onto(&self, from: &[u32], onto: &mut [u32]) -> Result<(), Refusal> {
-        join_words(WIDTH, from, onto)
-    }
-
-    fn judge(&self, row: &[u32]) -> Result<bool, Refusal> {
-        self.weigh(row)
-    }
-
-    fn first_day(
-        &self,
-        steps: &[Step],
-        marks: &mut [u8],
-        work: &mut [u32],
-    ) -> Result<bool, Refusal> {
-        refused_as_marked(self, steps, marks, work)
     }
 }

@@ -1,6 +1,5 @@
-pub mod Arrays
 pub mod Changes
 pub mod Numbers
+pub mod Plans
 pub mod Standing
-pub mod Tables
-pub mod Travelling
+pub mod Stored

@@ -1,12 +1,19 @@
 -- Where a stop stands: the route that holds it, counted from 0, and all routes joined. Assumes nothing.
-use Rattle.std.proofs.Common.{◌≡◌, ℕ, zero, suc, ◌+◌, ◌<◌, ◌≤◌, true, false, cond, ◌||◌, List, [], ◌∷◌, ◌++◌, length, get_or, take, drop, set, sym, refl, ap, ◌∙◌, ⊎_elim, arith, length-append}
-use Rattle.std.specs.List.{flat_map}
-use Rattle.std.proofs.lemmas.List.{append_assoc, take-append-drop, at_drop_more}
-use Rattle.std.proofs.lemmas.Bool.{and_parts, or_parts, or_from, or_left, or_right, not-true, cond-true, cond-false, eq-eqb, ne_eqb, both_ways, cases_Bool}
+use Rattle.std.proofs.Common.{◌≡◌, ℕ, zero, suc, ◌+◌, ◌<◌, ◌≤◌, true, false, List, [], ◌∷◌, ◌++◌, length, get_or, take, drop, set, Some, None, sym, refl, ap, ◌∙◌, ⊎_elim, arith, length-append}
+use Rattle.std.specs.Prelude.{Option}
+use Rattle.std.specs.List.{flat_map, position, position_from}
+use Rattle.std.specs.Option.{option_map}
+use Rattle.std.proofs.lemmas.Iterator.Adapters.{position_from-zero}
+use Rattle.std.proofs.lemmas.List.{append_assoc, take-append-drop}
+use Rattle.std.proofs.lemmas.List.Elements.{filter-append}
+use Rattle.std.proofs.lemmas.List.Folds.{list_any-append}
+use Rattle.std.proofs.lemmas.Bool.{cases_Bool}
+use Rattle.std.proofs.lemmas.Bool.Decides.{nat_tests}
+use Rattle.std.proofs.lemmas.Grind.{common_steps}
 use Rattle.records.specs.Steps.{are_stops}
 use Rattle.table.specs.Standing.{stops_alone}
-use Rattle.table.specs.Routes.{Routes, holds, put_in, take_out, route_from, dropped, distinct, apart}
-use Rattle.table.proofs.Numbers.{holds-append, holds-put_in, holds_others, take_out_absent, take_out-append, are_stops_parts}
+use Rattle.table.specs.Routes.{Routes, holds, put_in, take_out, route_with, dropped, distinct, apart}
+use Rattle.table.proofs.Numbers.{holds-put_in, holds_others, take_out_absent, are_stops_parts}
 
 -- all stops of a plan, route after route
 abbrev pub standing : Routes → List ℕ
@@ -15,27 +22,17 @@ standing rs = flat_map (λ r. r) rs
 -- a stop that stands on a route stands on the plan
 pub on_plan : (x : ℕ) (rs : Routes) (i : ℕ) → holds x (get_or rs i []) ≡ true → holds x (standing rs) ≡ true
 on_plan x [] i h = h
-on_plan x (r ∷ rs) zero h = holds-append x r (standing rs) ∙ or_left _ _ h
-on_plan x (r ∷ rs) (suc i) h = holds-append x r (standing rs) ∙ or_right _ _ (on_plan x rs i h)
-
--- a stop that does not stand on the plan stands neither on its first route nor on the others
-off_plan : (x : ℕ) (r : List ℕ) (rs : Routes) → holds x (standing (r ∷ rs)) ≡ false → (holds x r ≡ false) × (holds x (standing rs) ≡ false)
-off_plan x r rs none = or_parts _ _ (sym (holds-append x r (standing rs)) ∙ none)
+on_plan x (r ∷ rs) zero h = grind (arith, common_steps, list_any-append)
+on_plan x (r ∷ rs) (suc i) h = grind (arith, common_steps, list_any-append, on_plan x rs i)
 
 -- of two lists that have no number twice between them, a number stands in one alone
 not_both : (x : ℕ) (us vs : List ℕ) → distinct (us ++ vs) ≡ true → holds x vs ≡ true → holds x us ≡ false
 not_both x [] vs d h = refl
-not_both x (u ∷ us) vs d h =
-    let p = and_parts _ _ d in
-    let twice : x ≡ u → ⊥ = λ e. both_ways (holds u (us ++ vs)) (not-true _ p.0) (holds-append u us vs ∙ or_right _ _ (ap (λ z. holds z vs) (sym e) ∙ h)) in
-    or_from _ _ (ne_eqb x u twice) (not_both x us vs p.1 h)
-
-not_behind : (x : ℕ) (us vs : List ℕ) → distinct (us ++ vs) ≡ true → holds x us ≡ true → holds x vs ≡ false
-not_behind x us vs d h = ⊎_elim (λ both. absurd (both_ways _ (not_both x us vs d both) h)) (λ none. none) (cases_Bool (holds x vs))
+not_both x (u ∷ us) vs d h = grind (arith, common_steps, nat_tests, list_any-append, not_both x us vs)
 
 distinct_rest : (us vs : List ℕ) → distinct (us ++ vs) ≡ true → distinct vs ≡ true
 distinct_rest [] vs d = d
-distinct_rest (u ∷ us) vs d = distinct_rest us vs (and_parts _ _ d).1
+distinct_rest (u ∷ us) vs d = grind (arith, common_steps, distinct_rest us vs)
 
 -- ---- a route is a part of the plan
 
@@ -46,56 +43,56 @@ length_at (r ∷ rs) (suc i) = omega (arith, length-append r (standing rs), leng
 
 pub stops_at : (rs : Routes) (i : ℕ) → stops_alone rs ≡ true → are_stops (get_or rs i []) ≡ true
 stops_at [] i s = refl
-stops_at (r ∷ rs) zero s = (are_stops_parts r (standing rs) s).0
-stops_at (r ∷ rs) (suc i) s = stops_at rs i (are_stops_parts r (standing rs) s).1
+stops_at (r ∷ rs) zero s = grind (arith, common_steps, are_stops_parts r (standing rs))
+stops_at (r ∷ rs) (suc i) s = grind (arith, common_steps, are_stops_parts r (standing rs), stops_at rs i)
 
 -- ---- the route with a stop
 
+-- the first route that holds a stop, where the routes are counted from n
+abbrev pub route_from : ℕ → ℕ → Routes → Option ℕ
+route_from n x rs = position_from (holds x) n rs
+
+-- a search that counts from one more finds one more
+counted : (n x : ℕ) (rs : Routes) → route_from (n + 1) x rs ≡ option_map (λ i. i + 1) (route_from n x rs)
+counted n x [] = refl
+counted n x (r ∷ rs) = grind (arith, common_steps, counted (n + 1) x rs)
+
+-- the place of the route in the list, and its number
+pub place_is : (x : ℕ) (rs : Routes) → position (holds x) rs ≡ route_from 0 x rs
+place_is x rs = position_from-zero (holds x) rs
+
+pub number_is : (x : ℕ) (rs : Routes) → route_with x rs ≡ route_from 1 x rs
+number_is x rs = ap (option_map (λ i. i + 1)) (place_is x rs) ∙ sym (counted 0 x rs)
+
 -- where no stop stands twice, the route that holds a stop is the one that is found
-pub the_route : (n x : ℕ) (rs : Routes) (i : ℕ) → apart rs ≡ true → holds x (get_or rs i []) ≡ true → route_from n x rs ≡ n + i
-the_route n x [] i a h = absurd (both_ways _ refl h)
-the_route n x (r ∷ rs) zero a h = cond-true (holds x r) _ _ h ∙ omega arith
-the_route n x (r ∷ rs) (suc i) a h =
-    cond-false (holds x r) _ _ (not_both x r (standing rs) a (on_plan x rs i h)) ∙ the_route (suc n) x rs i (distinct_rest r (standing rs) a) h ∙ omega arith
+pub the_route : (n x : ℕ) (rs : Routes) (i : ℕ) → apart rs ≡ true → holds x (get_or rs i []) ≡ true → route_from n x rs ≡ Some (n + i)
+the_route n x [] i a h = grind arith
+the_route n x (r ∷ rs) zero a h = grind (arith, common_steps)
+the_route n x (r ∷ rs) (suc i) a h = grind (arith, common_steps, not_both x r (standing rs), on_plan x rs i, the_route (n + 1) x rs i, distinct_rest r (standing rs))
 
 -- the route that is found holds the stop
-pub found : (n x : ℕ) (rs : Routes) → (route_from n x rs ≡ 0 → ⊥) → (i : ℕ) × (i < length rs) × (route_from n x rs ≡ n + i) × (holds x (get_or rs i []) ≡ true)
-found n x [] some = absurd (some refl)
-found n x (r ∷ rs) some =
+pub found : (n x : ℕ) (rs : Routes) (q : ℕ) → route_from n x rs ≡ Some q → (i : ℕ) × (i < length rs) × (q ≡ n + i) × (holds x (get_or rs i []) ≡ true)
+found n x [] q is = grind arith
+found n x (r ∷ rs) q is =
     ⊎_elim
-    (λ here. (0, omega arith, cond-true (holds x r) _ _ here ∙ omega arith, here))
-    (λ behind.
-    let on = cond-false (holds x r) n (route_from (suc n) x rs) behind in
-    let rest = found (suc n) x rs (λ e. some (on ∙ e)) in
-    (suc rest.0, omega (arith, rest.1), on ∙ rest.2 ∙ omega arith, rest.3))
+    (λ here. (0, omega arith, grind (arith, common_steps), here))
+    (λ behind. let rest = found (n + 1) x rs q (grind (arith, common_steps)) in (suc rest.0, omega (arith, rest.1), omega (arith, rest.2), rest.3))
     (cases_Bool (holds x r))
 
 -- a stop that is not found does not stand on the plan
-pub nowhere : (n x : ℕ) (rs : Routes) → 0 < n → route_from n x rs ≡ 0 → holds x (standing rs) ≡ false
-nowhere n x [] pos free = refl
-nowhere n x (r ∷ rs) pos free =
-    ⊎_elim
-    (λ here. absurd (omega (arith, cond-true (holds x r) n (route_from (suc n) x rs) here)))
-    (λ behind. holds-append x r (standing rs) ∙ or_from _ _ behind (nowhere (suc n) x rs (omega arith) (sym (cond-false (holds x r) n _ behind) ∙ free)))
-    (cases_Bool (holds x r))
+pub nowhere : (n x : ℕ) (rs : Routes) → route_from n x rs ≡ None → holds x (standing rs) ≡ false
+nowhere n x [] free = refl
+nowhere n x (r ∷ rs) free = grind (arith, common_steps, list_any-append, nowhere (n + 1) x rs)
 
-pub not_found : (n x : ℕ) (rs : Routes) → holds x (standing rs) ≡ false → route_from n x rs ≡ 0
+pub not_found : (n x : ℕ) (rs : Routes) → holds x (standing rs) ≡ false → route_from n x rs ≡ None
 not_found n x [] none = refl
-not_found n x (r ∷ rs) none = let p = off_plan x r rs none in cond-false (holds x r) _ _ p.0 ∙ not_found (suc n) x rs p.1
-
--- a search that has come to route i finds the stop there, or goes on
-module _ (n x : ℕ) (rs : Routes) (i : ℕ) (lt : i < length rs) where
-  pub found_here : holds x (get_or rs i []) ≡ true → route_from n x (drop i rs) ≡ n
-  found_here h = at_drop_more (route_from n x) rs i [] lt ∙ cond-true _ _ _ h
-
-  pub found_further : holds x (get_or rs i []) ≡ false → route_from n x (drop i rs) ≡ route_from (n + 1) x (drop (i + 1) rs)
-  found_further h = at_drop_more (route_from n x) rs i [] lt ∙ cond-false _ _ _ h ∙ ap (λ m. route_from m x (drop (i + 1) rs)) (omega arith)
+not_found n x (r ∷ rs) none = grind (arith, common_steps, list_any-append, not_found (n + 1) x rs)
 
 -- ---- a stop taken out of every route
 
 pub standing_dropped : (x : ℕ) (rs : Routes) → standing (dropped x rs) ≡ take_out x (standing rs)
 standing_dropped x [] = refl
-standing_dropped x (r ∷ rs) = ap (λ q. take_out x r ++ q) (standing_dropped x rs) ∙ sym (take_out-append x r (standing rs))
+standing_dropped x (r ∷ rs) = grind (arith, common_steps, filter-append, standing_dropped x rs)
 
 pub get_d_dropped : (x : ℕ) (rs : Routes) (i : ℕ) → get_or (dropped x rs) i [] ≡ take_out x (get_or rs i [])
 get_d_dropped x [] i = refl
@@ -104,20 +101,17 @@ get_d_dropped x (r ∷ rs) (suc i) = get_d_dropped x rs i
 
 pub dropped_absent : (x : ℕ) (rs : Routes) → holds x (standing rs) ≡ false → dropped x rs ≡ rs
 dropped_absent x [] none = refl
-dropped_absent x (r ∷ rs) none = let p = off_plan x r rs none in (λ j. take_out_absent x r p.0 j ∷ dropped_absent x rs p.1 j)
+dropped_absent x (r ∷ rs) none = grind (arith, common_steps, list_any-append, take_out_absent x r, dropped_absent x rs)
 
 -- it changes the one route that holds the stop
 pub dropped-set : (x : ℕ) (rs : Routes) (i : ℕ) → apart rs ≡ true → holds x (get_or rs i []) ≡ true → dropped x rs ≡ set rs i (take_out x (get_or rs i []))
 dropped-set x [] i a h = refl
-dropped-set x (r ∷ rs) zero a h = ap (λ q. take_out x r ∷ q) (dropped_absent x rs (not_behind x r (standing rs) a h))
-dropped-set x (r ∷ rs) (suc i) a h =
-    let first = take_out_absent x r (not_both x r (standing rs) a (on_plan x rs i h)) in
-    let rest = dropped-set x rs i (distinct_rest r (standing rs) a) h in
-    (λ j. first j ∷ rest j)
+dropped-set x (r ∷ rs) zero a h = grind (arith, common_steps, dropped_absent x rs, not_both x r (standing rs))
+dropped-set x (r ∷ rs) (suc i) a h = grind (arith, common_steps, take_out_absent x r, not_both x r (standing rs), on_plan x rs i, dropped-set x rs i, distinct_rest r (standing rs))
 
 pub others_dropped : (n x y : ℕ) (rs : Routes) → (y ≡ x → ⊥) → route_from n y (dropped x rs) ≡ route_from n y rs
 others_dropped n x y [] other = refl
-others_dropped n x y (r ∷ rs) other = (λ j. cond (holds_others x y r other j) n (others_dropped (suc n) x y rs other j))
+others_dropped n x y (r ∷ rs) other = grind (arith, common_steps, holds_others x y r, others_dropped (n + 1) x y rs)
 
 -- ---- a stop put in at a place of one route
 
@@ -135,25 +129,23 @@ module _ (x k : ℕ) where
     front = take k r;
     back = drop k r ++ standing rs;
     before = ap (λ q. q ++ standing rs) (sym (take-append-drop k r)) ∙ append_assoc (take k r) (drop k r) (standing rs);
-    after = append_assoc (take k r) (x ∷ drop k r) (standing rs);
+    after = grind (arith, common_steps, append_assoc);
   }
   standing_placed (r ∷ rs) (suc i) h =
       let rest = standing_placed rs i (omega arith) in
       record {
         front = r ++ rest.front;
         back = rest.back;
-        before = ap (λ q. r ++ q) rest.before ∙ sym (append_assoc r rest.front rest.back);
-        after = ap (λ q. r ++ q) rest.after ∙ sym (append_assoc r rest.front (x ∷ rest.back));
+        before = grind (arith, common_steps, append_assoc);
+        after = grind (arith, common_steps, append_assoc);
       }
 
-  pub found_placed : (n : ℕ) (rs : Routes) (i : ℕ) → holds x (standing rs) ≡ false → i < length rs → route_from n x (set rs i (put_in x k (get_or rs i []))) ≡ n + i
-  found_placed n [] i none h = absurd (omega arith)
-  found_placed n (r ∷ rs) zero none h = cond-true (holds x (put_in x k r)) _ _ (holds-put_in x x k r ∙ or_left _ _ (eq-eqb x x refl)) ∙ omega arith
-  found_placed n (r ∷ rs) (suc i) none h =
-      let p = off_plan x r rs none in
-      cond-false (holds x r) _ _ p.0 ∙ found_placed (suc n) rs i p.1 (omega arith) ∙ omega arith
+  pub found_placed : (n : ℕ) (rs : Routes) (i : ℕ) → holds x (standing rs) ≡ false → i < length rs → route_from n x (set rs i (put_in x k (get_or rs i []))) ≡ Some (n + i)
+  found_placed n [] i none h = grind arith
+  found_placed n (r ∷ rs) zero none h = grind (arith, common_steps, nat_tests, holds-put_in x x k r)
+  found_placed n (r ∷ rs) (suc i) none h = grind (arith, common_steps, list_any-append, found_placed (n + 1) rs i)
 
   pub others_placed : (n y : ℕ) (rs : Routes) (i : ℕ) → (y ≡ x → ⊥) → route_from n y (set rs i (put_in x k (get_or rs i []))) ≡ route_from n y rs
   others_placed n y [] i other = refl
-  others_placed n y (r ∷ rs) zero other = ap (λ b. cond b n (route_from (suc n) y rs)) (holds-put_in y x k r ∙ ap (λ b. b || holds y r) (ne_eqb y x other))
-  others_placed n y (r ∷ rs) (suc i) other = ap (cond (holds y r) n) (others_placed (suc n) y rs i other)
+  others_placed n y (r ∷ rs) zero other = grind (arith, common_steps, nat_tests, holds-put_in y x k r)
+  others_placed n y (r ∷ rs) (suc i) other = grind (arith, common_steps, others_placed (n + 1) y rs i)

@@ -2,4 +2,3 @@ pub mod Routes
 pub mod Travel
 pub mod Stored
 pub mod Standing
-pub mod Tables

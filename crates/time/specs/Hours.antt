@@ -3,9 +3,9 @@ use Rattle.std.specs.Prelude.{ℕ, ◌+◌, max, Bool, ◌&&◌, List, [], ◌�
 use Rattle.records.specs.declared.step.Step.{Step}
 use Rattle.resource.specs.Rows.{Extension}
 use Rattle.resource.specs.Scenarios.{Accepts}
-use Rattle.words.specs.Days.{throughout}
-use Rattle.words.specs.Figures.{travel, serve}
-use Rattle.words.specs.Words.{ceiling, recursion}
+use Rattle.resource.specs.Days.{throughout}
+use Rattle.resource.specs.Figures.{travel, serve}
+use Rattle.resource.specs.Words.{ceiling, recursion}
 
 -- the latest hour at which a route may begin
 abbrev pub latest_beginning : ℕ

@@ -4,9 +4,9 @@ use Rattle.std.proofs.Common.{ap, ◌∙◌, arith}
 use Rattle.std.proofs.lemmas.Bool.{and_parts, le-leb}
 use Rattle.records.specs.declared.step.Step.{Step}
 use Rattle.resource.specs.Rows.{Lawful, run}
-use Rattle.words.specs.Words.{ceiling, greater, sound}
-use Rattle.words.proofs.Joins.{Joinable, recursion_lawful, get_d_greater, within_both}
-use Rattle.words.proofs.Routes.{run_throughout}
+use Rattle.resource.specs.Words.{ceiling, greater, sound}
+use Rattle.resource.proofs.Joins.{Joinable, recursion_lawful, get_d_greater, within_both}
+use Rattle.resource.proofs.Routes.{run_throughout}
 use Rattle.time.specs.Hours.{latest_beginning, hour_of, arrival, in_time, leaving, hours, on_time}
 
 and_true : (b : Bool) → b ≡ true → (b && true) ≡ true

@@ -1,44 +1,37 @@
-use Rattle.std.proofs.Common.{◌≡◌, ℕ, ◌+◌, ◌-◌, ◌≤◌, length, sym, ◌∙◌, subst, arith}
+use Rattle.std.proofs.Common.{◌≡◌, ◌+◌, ◌-◌, ◌≤◌, length, is_some, sym, ap, ◌∙◌, subst, arith}
 use borrow.Rule.Slice.PartMut.{put_mid}
 use Rattle.std.proofs.lemmas.Bool.{cond-true}
+use Rattle.std.specs.List.{flat_map}
+use Rattle.records.proofs.Writing.{Sofar}
 use Rattle.lines.specs.Forms.{line_text}
-use Rattle.dayfile.specs.Storing.{day_of}
-use Rattle.dayfile.proofs.Following.{nothing_due, something_due}
-use Rattle.dayfile.proofs.Writing.{Placing, placing_first, placing_next, placing_all, line_fits, left_falls, placed, form_due_lem, has_room, tail_written}
+use Rattle.dayfile.specs.Days.{day_text}
+use Rattle.dayfile.specs.Lent.{CanStep, at_first, day_in, lines_left}
+use Rattle.dayfile.proofs.Writing.{none_written, line_fits, line_written, has_room, tail_written}
 use Rattle.dayfile.proofs.writer.write_lines.Goals as goal
-use Rattle.dayfile.proofs.writer.write_lines.Goals.{After-line_at-line}
+use Rattle.dayfile.proofs.writer.write_lines.Goals.{In-Some}
 
-pub loop-head-init : goal.loop-head-init
-loop-head-init c = placing_first _ _
+pub loop-line-init : goal.loop-line-init
+loop-line-init c =
+    let start : c.into_iter-line-iterator.result ≡ at_first c.args.day = cc in (
+      subst CanStep (sym start) (record { place = tt; few = c.requires.0.count }),
+      tt,
+      subst (λ s. Sofar (day_text (day_in c.args.day)) c.args.buffer.now c.args.buffer.now (flat_map line_text (lines_left s)) 0) (sym start) (none_written _ _),
+    )
 
-pub line_at-line-requires : goal.line_at-line-requires
-line_at-line-requires c = (c.requires.0, placed _ _ c.loop-head.invariant.range)
+room : (c : In-Some) → c.loop-line.at + length (line_text c.in-Some.line) ≤ length c.loop-line.buffer
+room c = line_fits _ _ _ _ _ c.loop-line.invariant.2 c.requires.0 (omega arith) _ _ c.in-Some.ensures.steps
 
-room : (c : After-line_at-line) → c.loop-head.at + length (line_text c.line_at-line.result) ≤ length c.loop-head.buffer
-room c = line_fits _ _ _ _ _ c.loop-head.invariant c.requires.1.0 (omega arith) (something_due _ (sym c.loop-head-test.ensures)) _ c.line_at-line.ensures
+pub unwrap-at-requires : goal.unwrap-at-requires
+unwrap-at-requires c =
+    ap is_some (c.write_line.ensures.room ∙ cond-true _ _ _ (has_room c.loop-line.buffer (line_text c.in-Some.line) c.loop-line.at (room (goal.at.unwrap-at-requires c).In-Some)))
 
-pub returns-in_default : goal.returns-in_default
-returns-in_default c =
-    let fits = cond-true _ _ _ (has_room c.loop-head.buffer (line_text c.line_at-line.result) c.loop-head.at (room (goal.at.returns-in_default c).After-line_at-line)) in
-    let told = c.in_default.ensures.room ∙ fits in
-    absurd (let z : ◌≡◌ {A = ℕ} 0 1 = cc in omega arith)
-
-pub returns-in_default-after : goal.returns-in_default-after
-returns-in_default-after c = absurd (c.in_default-after.ensures (form_due_lem _ (day_of c.args.head c.args.stops.now c.args.legs.now) _ (something_due _ (sym c.loop-head-test.ensures)) c.line_at-line.ensures))
-
-pub loop-head-smaller : goal.loop-head-smaller
-loop-head-smaller c = left_falls _ c.in-Some-after.ensures c.line_at-line.ensures c.loop-head.invariant.range
-
-pub loop-head-preserved : goal.loop-head-preserved
-loop-head-preserved c =
-    let inside = room (goal.at.loop-head-preserved c).After-line_at-line in
-    let told = c.in-Some.ensures in
-    let some = told.room ∙ cond-true _ _ _ (has_room c.loop-head.buffer (line_text c.line_at-line.result) c.loop-head.at inside) in
-    let size : c.in-Some.length ≡ length (line_text c.line_at-line.result) = cc in
-    subst (λ n. Placing c.in-Some-after.next (day_of c.args.head c.args.stops.now c.args.legs.now) c.args.buffer.now (put_mid c.loop-head.at (length c.loop-head.buffer - c.loop-head.at) c.loop-head.buffer c.write_line.new.out) (c.loop-head.at + n)) (sym size)
-    (placing_next _ _ _ _ _ c.loop-head.invariant c.requires.1.0 (omega arith) c.in-Some-after.ensures c.line_at-line.ensures _ (tail_written c.loop-head.buffer (line_text c.line_at-line.result) c.loop-head.at inside c.write_line.new.out told.bytes))
-
-pub returns : goal.returns
-returns c =
-    let all = placing_all _ _ _ _ _ (nothing_due _ (sym c.loop-head-test.ensures)) c.loop-head.invariant in
-    record { size = all.0; bytes = all.1 }
+pub loop-line-preserved : goal.loop-line-preserved
+loop-line-preserved c =
+    let inside = room (goal.at.loop-line-preserved c).In-Some in
+    let some = c.write_line.ensures.room ∙ cond-true _ _ _ (has_room c.loop-line.buffer (line_text c.in-Some.line) c.loop-line.at inside) in
+    let size : c.unwrap-at.result ≡ length (line_text c.in-Some.line) = cc in (
+      c.in-Some.ensures.goes.keeps,
+      tt,
+      subst (λ n. Sofar (day_text (day_in c.args.day)) c.args.buffer.now (put_mid c.loop-line.at (length c.loop-line.buffer - c.loop-line.at) c.loop-line.buffer c.write_line.new.out) (flat_map line_text (lines_left c.next.new.self)) (c.loop-line.at + n)) (sym size)
+          (line_written _ _ _ _ _ c.loop-line.invariant.2 c.requires.0 (omega arith) _ _ c.in-Some.ensures.steps _ (tail_written c.loop-line.buffer (line_text c.in-Some.line) c.loop-line.at inside c.write_line.new.out c.write_line.ensures.bytes)),
+    )

@@ -1,9 +1,10 @@
-use Rattle.dayfile.specs.Storing.{day_of}
-use Rattle.dayfile.proofs.Writing.{Placing, left}
+use Rattle.std.specs.List.{flat_map}
+use Rattle.records.proofs.Writing.{Sofar}
+use Rattle.lines.specs.Forms.{line_text}
+use Rattle.dayfile.specs.Days.{day_text}
+use Rattle.dayfile.specs.Lent.{day_in, lines_left}
 use Rattle.dayfile.proofs.writer.write_lines.Given as goal
 
-abbrev pub invariant-loop-head : goal.invariant-loop-head
-invariant-loop-head l = Placing l.due (day_of l.head l.stops l.legs) l.initial.buffer l.buffer l.at
-
-abbrev pub decreases-loop-head : goal.decreases-loop-head
-decreases-loop-head l = left (day_of l.head l.stops l.legs) l.due
+abbrev pub invariant-loop-line : goal.invariant-loop-line
+invariant-loop-line l =
+    (goal.iterator-loop-line).can_next l.line-iterator × (goal.iterator-loop-line).is_finite l.line-iterator × Sofar (day_text (day_in l.day)) l.initial.buffer l.buffer (flat_map line_text (lines_left l.line-iterator)) l.at

@@ -1,4 +1,4 @@
-use Rattle.std.proofs.Common.{◌≡◌, ◌*◌, ◌≤◌, true, false, ◌∷◌, ◌++◌, length, take, drop, is_some, Ok, sym, ap, ◌∙◌, ap₂, add-mul, arith, length-append, length-drop, length-take}
+use Rattle.std.proofs.Common.{◌≡◌, ◌*◌, ◌≤◌, true, false, ◌∷◌, ◌++◌, length, take, drop, is_some, Ok, refl, sym, ap, ◌∙◌, ap₂, add-mul, arith, length-append, length-drop, length-take}
 use Rattle.std.proofs.lemmas.List.{take-append-drop, take_at}
 use Rattle.std.proofs.lemmas.Bool.{not-true, not-false, cond-true, cond-false}
 use Rattle.resource.specs.Answers.{day_list}
@@ -6,6 +6,7 @@ use Rattle.resource.specs.Scenarios.{Budget, first_day}
 use Rattle.layered.proofs.FirstDays.{length-first_day}
 use Rattle.layered.proofs.Piles.{no_day, first_day-chosen, chosen_found}
 use Rattle.layered.proofs.Widths.{counted, counted_below}
+use Rattle.resource.proofs.Runs.{asked}
 use Rattle.layer.proofs.Answered.{ok_same, day_granted, day_list_lem}
 use Rattle.layer.proofs.LayerResource.first_day.Goals as goal
 
@@ -16,8 +17,9 @@ returns-then-not-branch g c =
     let n = length c.args.steps.now in
     let ms = take n c.args.marks.now in
     let w = r.width l.below in
-    let wide = counted_below l.budget c.row_width-wide.result w c.row_width-wide.ensures c.if-width-gt-WIDEST.false in
-    let width = counted l.budget c.row_width-wide.result w c.row_width-wide.ensures c.if-width-gt-WIDEST.false in
+    let grant = asked _ _ n (length c.args.marks.now) (length c.args.work.now) _ tt refl c.in_ok-ask_route.ensures in
+    let wide = counted_below l.budget c.row_width-wide.result w c.row_width-wide.ensures grant.narrow in
+    let width = counted l.budget c.row_width-wide.result w c.row_width-wide.ensures grant.narrow in
     let judges = g.met.B.Resource.judges_every_scenario l.below wide in
     let all = not-false _ (sym (ok_same _ _ c.in_ok-choose_day.ensures.answer) ∙ c.if-not-branch.true) in
     let none = no_day (r.start l.below) (r.extension l.below) (r.verdict l.below) (r.layers l.below) (r.accepts l.below) judges (record { class = l.class; most = l.budget }) c.args.steps.now ms (length-take n c.args.marks.now ∙ omega arith) all in
@@ -37,8 +39,9 @@ returns g c =
     let ms = take n old in
     let w = r.width l.below in
     let b : Budget = record { class = l.class; most = l.budget } in
-    let width = counted l.budget c.row_width-wide.result w c.row_width-wide.ensures c.if-width-gt-WIDEST.false in
-    let wide = counted_below l.budget c.row_width-wide.result w c.row_width-wide.ensures c.if-width-gt-WIDEST.false in
+    let grant = asked _ _ n (length c.args.marks.now) (length c.args.work.now) _ tt refl c.in_ok-ask_route.ensures in
+    let wide = counted_below l.budget c.row_width-wide.result w c.row_width-wide.ensures grant.narrow in
+    let width = counted l.budget c.row_width-wide.result w c.row_width-wide.ensures grant.narrow in
     let judges = g.met.B.Resource.judges_every_scenario l.below wide in
     let long : length ms ≡ n = length-take n old ∙ omega arith in
     let refused = not-true _ (sym (ok_same _ _ c.in_ok-choose_day.ensures.answer) ∙ c.if-not-branch.false) in
@@ -55,7 +58,7 @@ returns g c =
     let bytes : 41 ≤ length (new ++ drop n old) = omega (arith, length-append new (drop n old), length-drop n old) in
     let answered : c.first_day.result ≡ Ok (is_some fd) =
     c.first_day.ensures.answer
-    ∙ day_granted w n (length (new ++ drop n old)) (length c.choose_day.new.work) _ wide c.if-steps-gt-MOST_STEPS.false room bytes
+    ∙ day_granted w n (length (new ++ drop n old)) (length c.choose_day.new.work) _ wide grant.few room bytes
     ∙ ap (λ d. Ok (is_some d)) below in
     record {
       answer = answered ∙ sym (day_granted _ n (length old) (length c.args.work.now) _ (omega arith) (omega arith) (omega arith) (omega arith));

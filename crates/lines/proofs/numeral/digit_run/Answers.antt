@@ -1,18 +1,12 @@
-use Rattle.std.proofs.Common.{sym, arith}
-use Rattle.std.proofs.lemmas.List.{at_drop_all}
+use Rattle.std.proofs.Common.{◌≡◌, true, false, sym, refl, ◌∙◌, rules}
+use Rattle.std.proofs.lemmas.Iterator.{YieldsList-from_slice, IsFirst-from_position, index_from_first}
+use borrow.Author.Tests.{tests}
+use Rattle.std.specs.Char.{is_ascii_digit}
 use Rattle.lines.specs.Numerals.{digit_run}
-use Rattle.lines.proofs.Digits.{digit_run-more, digit_run-none}
+use Rattle.lines.proofs.Digits.{digit_run_here, digit_run_next}
 use Rattle.lines.proofs.numeral.digit_run.Goals as goal
 
-pub loop-n-preserved : goal.loop-n-preserved
-loop-n-preserved c =
-    let more = digit_run-more c.args.text.now c.loop-n.n c.loop-n-test.true (sym c.if-is_ascii_digit.ensures.value) in
-    (omega arith, omega arith)
-
-pub returns-else-is_ascii_digit : goal.returns-else-is_ascii_digit
-returns-else-is_ascii_digit c =
-    let none = digit_run-none c.args.text.now c.loop-n.n c.loop-n-test.true (sym c.if-is_ascii_digit.ensures.value) in
-    record { value = omega arith; within = omega arith }
-
-pub returns-after-loop-n : goal.returns-after-loop-n
-returns-after-loop-n c = record { value = omega (arith, at_drop_all digit_run c.args.text.now c.loop-n.n c.loop-n-test.false); within = omega arith }
+pub returns-clause-value : goal.returns-clause-value
+returns-clause-value c =
+    c.unwrap_or.ensures ∙ sym (index_from_first digit_run (λ b. is_ascii_digit b ≡ false) (λ b. is_ascii_digit b ≡ true) refl digit_run_here digit_run_next c.args.text.now c.position.result
+    (IsFirst-from_position _ _ _ (λ b. is_ascii_digit b ≡ false) (λ b. is_ascii_digit b ≡ true) c.position.ensures.ran (YieldsList-from_slice c.args.text.now cc) (λ x q k. search (rules, tests)) (λ x q k. search (rules, tests))))

@@ -1,6 +1,6 @@
 use Rattle.std.proofs.Common.{◌++◌, length}
-use Rattle.words.specs.Days.{own_verdict}
-use Rattle.words.proofs.FirstDay.{day_answer_lem, day_list_lem}
+use Rattle.resource.specs.Days.{own_verdict}
+use Rattle.resource.proofs.FirstDay.{found_unless_accepted, list_stays}
 use Rattle.pair.specs.Sides.{pair_width, pair_extension, pair_verdict}
 use Rattle.pair.proofs.PairResource.first_day.Goals as goal
 
@@ -16,5 +16,6 @@ returns g c =
     let marks = c.args.marks.now in
     let width = pair_width a (g.Second.Resource.width two) in
     let work = length c.args.work.now in
-    let answered = c.refused_as_marked.ensures in
-    record { answer = day_answer_lem accepts steps marks width work _ answered; list = day_list_lem accepts steps marks width work _ answered }
+    let accepted = c.in_ok-accepted.accepted in
+    let judged = c.in_ok-accepted.ensures in
+    record { answer = found_unless_accepted accepts steps marks width work accepted judged; list = list_stays accepts steps marks width work accepted judged }

@@ -1,14 +1,12 @@
-use Rattle.std.proofs.Common.{sym, ◌∙◌}
-use Rattle.std.proofs.lemmas.List.{at_drop_all}
+use Rattle.std.proofs.Common.{◌≡◌, true, false, refl, rules}
+use Rattle.std.proofs.lemmas.Iterator.{YieldsList-from_slice, cases_from_all}
+use Rattle.std.specs.Prelude.{nat_le}
+use borrow.Author.Tests.{tests}
 use Rattle.records.specs.Steps.{in_table}
-use Rattle.records.proofs.Walks.{outside, inside-more}
+use Rattle.records.proofs.Checks.{all_from_search}
 use Rattle.records.proofs.route.is_in_table.Goals as goal
 
-pub returns-then-k-ge-STOP_RECORDS : goal.returns-then-k-ge-STOP_RECORDS
-returns-then-k-ge-STOP_RECORDS c = sym (sym c.loop-k.invariant ∙ outside c.args.route.now c.loop-k.k-index c.loop-k-test.true c.if-k-ge-STOP_RECORDS.true)
-
-pub loop-k-preserved : goal.loop-k-preserved
-loop-k-preserved c = sym (inside-more c.args.route.now c.loop-k.k-index c.loop-k-test.true c.if-k-ge-STOP_RECORDS.false) ∙ c.loop-k.invariant
-
 pub returns : goal.returns
-returns c = sym (at_drop_all in_table c.args.route.now c.loop-k.k-index c.loop-k-test.false) ∙ c.loop-k.invariant
+returns c =
+    all_from_search (λ k. nat_le k 40) in_table refl (λ k ks. refl) c.args.route.now c.all.result
+    (cases_from_all _ _ _ (λ k. nat_le k 40 ≡ true) (λ k. nat_le k 40 ≡ false) c.all.ensures.ran (YieldsList-from_slice c.args.route.now cc) (λ x q k. search (rules, tests)) (λ x q k. search (rules, tests)))

@@ -1,38 +1,29 @@
-use Rattle.std.proofs.Common.{◌≡◌, ◌-◌, set, sym, ap, ◌∙◌, arith, length-set}
-use Rattle.table.specs.Routes.{dropped, apart}
-use Rattle.table.specs.Standing.{stops_alone}
-use Rattle.table.specs.Stored.{routes_of}
-use Rattle.table.specs.Tables.{routes_in}
-use Rattle.table.proofs.Changes.{dropped_free, apart-dropped, stops_dropped}
-use Rattle.table.proofs.Tables.{route_place, stored_dropped}
+use Rattle.std.proofs.Common.{◌≡◌, Some, set, sym, ap, ◌∙◌, subst}
+use Rattle.std.specs.List.{position}
+use Rattle.table.specs.Routes.{holds, dropped}
+use Rattle.table.specs.Standing.{IsPlan}
+use Rattle.table.proofs.Changes.{dropped_nowhere}
+use Rattle.table.proofs.Plans.{dropped_at, plan_dropped}
 use Rattle.table.proofs.table.Table.dropped.Goals as goal
-use Rattle.table.proofs.table.Table.dropped.Goals.{After-without}
+use Rattle.table.proofs.table.Table.dropped.Goals.{After-remove}
 
-pub returns-then-number-eq0 : goal.returns-then-number-eq0
-returns-then-number-eq0 c = sym (dropped_free c.args.stop (routes_in c.args.self) (sym c.route_with-number.ensures ∙ c.if-number-eq0.true))
+written : (c : After-remove) → set c.self.inside.routes c.in-Some.at c.remove.new.self ≡ dropped c.args.stop c.self.inside.routes
+written c =
+    let rs = c.self.inside.routes in
+    let found : position (holds c.args.stop) rs ≡ Some c.in-Some.at = ap (position (holds c.args.stop)) c.self.view_is ∙ sym c.in-Some.ensures.value in
+    ap (set rs c.in-Some.at) c.remove.ensures ∙ dropped_at rs c.self.invariant c.args.stop c.in-Some.at found _
 
-pub listed : goal.listed
-listed c = omega (arith, route_place c.args.self c.args.stop _ c.route_with-number.ensures c.if-number-eq0.false)
+plan : (c : After-remove) → IsPlan (set c.self.inside.routes c.in-Some.at c.remove.new.self)
+plan c = subst IsPlan (sym (written c)) (plan_dropped c.self.inside.routes c.self.invariant c.args.stop)
 
-pub bounds-self-at : goal.bounds-self-at
-bounds-self-at c = route_place c.args.self c.args.stop _ c.route_with-number.ensures c.if-number-eq0.false
+pub invariant_of-self : goal.invariant_of-self
+invariant_of-self c = plan (goal.at.invariant_of-self c).After-remove
 
-pub bounds-routes-at : goal.bounds-routes-at
-bounds-routes-at c = route_place c.args.self c.args.stop _ c.route_with-number.ensures c.if-number-eq0.false
+pub returns-in-Some-clause-plan : goal.returns-in-Some-clause-plan
+returns-in-Some-clause-plan c = plan (goal.at.returns-in-Some-clause-plan c).After-remove
 
--- the one route that held the stop is written, and that is the table without the stop
-written : (c : After-without) → routes_of (set c.args.self.routes (c.route_with-number.result - 1) c.without.result) ≡ dropped c.args.stop (routes_in c.args.self)
-written c = stored_dropped c.args.self c.args.stop _ c.route_with-number.ensures c.if-number-eq0.false _ _ c.without.ensures
+pub returns-in-Some-clause-value : goal.returns-in-Some-clause-value
+returns-in-Some-clause-value c = written (goal.at.returns-in-Some-clause-value c).After-remove ∙ ap (dropped c.args.stop) c.self.view_is
 
-pub invariant_of-result : goal.invariant_of-result
-invariant_of-result c =
-    let t = c.args.self in
-    let x = c.args.stop in
-    record {
-      eight = length-set t.routes _ _ ∙ t.eight;
-      no_stop_twice = ap apart (written c) ∙ apart-dropped x (routes_in t) t.no_stop_twice;
-      stops = ap stops_alone (written c) ∙ stops_dropped x (routes_in t) t.stops;
-    }
-
-pub returns : goal.returns
-returns c = written (goal.at.returns c).After-without
+pub returns-in_default-clause-value : goal.returns-in_default-clause-value
+returns-in_default-clause-value c = sym (dropped_nowhere c.args.stop c.args.self cc)

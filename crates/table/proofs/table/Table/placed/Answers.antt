@@ -1,31 +1,20 @@
-use Rattle.std.proofs.Common.{◌≡◌, ◌-◌, set, Some, sym, ap, ◌∙◌, length-set}
-use Rattle.std.proofs.lemmas.Bool.{cond-true}
-use Rattle.table.specs.Routes.{placed, apart}
-use Rattle.table.specs.Standing.{stops_alone}
-use Rattle.table.specs.Stored.{routes_of}
-use Rattle.table.specs.Tables.{routes_in}
-use Rattle.table.proofs.Tables.{placing_room, placing_within, placing_apart, placing_stops, stored_placed}
+use Rattle.std.proofs.Common.{◌≡◌, ◌-◌, true, set, sym, ap, ◌∙◌, subst}
+use Rattle.table.specs.Standing.{IsPlan, fits_in}
+use Rattle.table.proofs.Plans.{room, placed_at, plan_placed}
 use Rattle.table.proofs.table.Table.placed.Goals as goal
-use Rattle.table.proofs.table.Table.placed.Goals.{After-with}
+use Rattle.table.proofs.table.Table.placed.Goals.{After-insert}
 
-pub with-requires : goal.with-requires
-with-requires c =
-    let fits = sym c.if-not-fits_in.ensures in
-    record { room = placing_room c.args.self c.args.stop _ c.args.spot.place fits _; within = placing_within c.args.self c.args.stop _ c.args.spot.place fits _ }
+pub insert-requires-clause-room : goal.insert-requires-clause-room
+insert-requires-clause-room c = room _ c.self.invariant c.args.stop c.args.spot (ap (fits_in c.args.stop c.args.spot) c.self.view_is ∙ sym c.if-not-fits_in.ensures) _
 
--- the one route is written, and that is the table with the stop put in
-written : (c : After-with) → routes_of (set c.args.self.routes (c.args.spot.route - 1) c.with.result) ≡ placed c.args.stop c.args.spot.route c.args.spot.place (routes_in c.args.self)
-written c = stored_placed c.args.self _ _ _ (sym c.if-not-fits_in.ensures) _ _ c.with.ensures
+plan : (c : After-insert) → IsPlan (set c.self.inside.routes (c.args.spot.route - 1) c.insert.new.self)
+plan c =
+    let rs = c.self.inside.routes in
+    let fits : fits_in c.args.stop c.args.spot rs ≡ true = ap (fits_in c.args.stop c.args.spot) c.self.view_is ∙ sym c.if-not-fits_in.ensures in
+    subst IsPlan (sym (ap (set rs (c.args.spot.route - 1)) c.insert.ensures ∙ placed_at rs c.self.invariant c.args.stop c.args.spot fits _)) (plan_placed rs c.self.invariant c.args.stop c.args.spot fits)
 
-pub invariant_of-result : goal.invariant_of-result
-invariant_of-result c =
-    let t = c.args.self in
-    let fits = sym c.if-not-fits_in.ensures in
-    record {
-      eight = length-set t.routes _ _ ∙ t.eight;
-      no_stop_twice = ap apart (written c) ∙ placing_apart t _ _ _ fits;
-      stops = ap stops_alone (written c) ∙ placing_stops t _ _ _ fits;
-    }
+pub invariant_of-self : goal.invariant_of-self
+invariant_of-self c = plan (goal.at.invariant_of-self c).After-insert
 
-pub returns : goal.returns
-returns c = ap Some (written (goal.at.returns c).After-with) ∙ sym (cond-true _ _ _ (sym c.if-not-fits_in.ensures))
+pub returns-clause-plan : goal.returns-clause-plan
+returns-clause-plan c = plan (goal.at.returns-clause-plan c).After-insert

@@ -1,0 +1,12 @@
+use Rattle.std.proofs.Common.{rules}
+use Rattle.layered.specs.Layered.{row_at}
+use Rattle.layer.proofs.Changing.{all_changed}
+use Rattle.layer.proofs.rows.Rows.extend_each.Goals as goal
+
+pub returns : goal.returns
+returns g c =
+    let b = c.args.self.now.layer.now.below in
+    let w = c.args.self.now.wide in
+    let e = c.change_rows.ensures in
+    let all = all_changed _ w _ _ c.count.ensures (λ k _. g.B.Resource.extension b c.args.step.now c.args.marks (row_at w c.args.from.now k)) c.args.into.now c.change_rows.new.rows (λ k found left answer h long m. (search rules, search rules)) c.requires.into e.width c.change_rows.result e.done e.refused in
+    record { answer = all.0; row = all.1 }

@@ -1,4 +1,0 @@
-pub mod Words
-pub mod Figures
-pub mod Making
-pub mod Days
