@@ -10,7 +10,7 @@ use records::{LEG_RECORDS, Leg, STOP_RECORDS, Stop};
 use std::alloc::{AllocError, Global};
 use std::fs;
 
-// Stands in an edit for a line that is taken away.
+// Stands in the file of edits for a line that is taken away.
 const TAKEN_AWAY: &str = "-";
 
 // Where the lines are printed, and the memory that each text is read into and written from.

@@ -3,17 +3,8 @@ ghost use Rattle.std.specs.Prelude.{◌≡◌};
 ghost use Rattle.dayfile.specs.Bounds.{is_time, is_quantity, is_count, sound_stop, sound_leg, within, ordered, subject};
 
 use lines::line::Line;
-pub use records::limits::MOST_STOPS;
+pub use records::limits::{MOST_BUDGET, MOST_CRATES, MOST_SECONDS, MOST_STOPS};
 use records::{Leg, Stop};
-
-// The latest time, and the longest.
-pub const MOST_SECONDS: u32 = 100_000;
-
-// The most crates that one number tells of.
-pub const MOST_CRATES: u32 = 10_000;
-
-// The largest budget.
-pub const MOST_BUDGET: u32 = 8;
 
 // What a line tells of, beside the day as a whole.
 #[derive(Clone, Copy, PartialEq, Eq, Debug)]
@@ -24,6 +15,7 @@ pub enum Subject {
     Leg(u32, u32),
 }
 
+// A range of its own for each kind of number, as in the rules.
 fn is_time(seconds: u32) -> bool
     ensures { result ≡ is_time seconds }
 {

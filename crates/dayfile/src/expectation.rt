@@ -1,4 +1,4 @@
-// What the reader expects next.
+// What the reader expects next: a form, and which one of its kind.
 
 #[derive(Clone, Copy, PartialEq, Eq, Debug)]
 pub enum Expectation {
@@ -15,7 +15,7 @@ pub enum Expectation {
     // the places that a leg leads from and to, and how many stops there are
     Leg(u32, u32, u32),
     End,
-    // the end of the text
+    // the end of the text; not `None`, which says that no line of the form due has come
     Nothing,
 }
 

@@ -36,7 +36,7 @@ fn read_lines(
     let mut head = Head::default();
     let mut due = Expectation::Day;
     let mut rest = text;
-    // counted by hand: what is left of the text is no sequence of lines to enumerate until it is parsed
+    // counted by hand: a line is known only when it is parsed and judged, and either may refuse it by its number
     let mut number = 1;
     while due != Expectation::Nothing {
         let (line, after) = parse(rest).ok_or(ReadRefusal::Form(number))?;

@@ -5,7 +5,7 @@ use resource::limits::MARK_BYTES;
 use std::alloc::{AllocError, Global};
 
 // A generator of figures: a linear congruence, of which the high bits are taken.
-#[derive(Clone, Copy)]
+#[derive(Clone, Copy, PartialEq, Eq, Debug)]
 pub struct Random {
     pub state: u32,
 }
@@ -28,14 +28,14 @@ impl Random {
     }
 }
 
-#[derive(Clone, Copy)]
+#[derive(Clone, Copy, PartialEq, Eq, Debug)]
 pub struct Budget {
     pub class: u8,
     pub most: u32,
 }
 
 // The figures of the resources.
-#[derive(Clone, Copy)]
+#[derive(Clone, Copy, PartialEq, Eq, Debug)]
 pub struct Figures {
     pub beginning: u32,
     pub capacity: u32,
@@ -68,7 +68,7 @@ fn make_step(random: &mut Random) -> Step {
     let deliver_deviation = random.below(12);
     let pickup = random.below(12);
     let pickup_deviation = random.below(12);
-    let rest = if random.below(3) == 0 { 1 } else { 0 };
+    let rest = u32::from(random.below(3) == 0);
     let stop = Stop {
         opens,
         closes,

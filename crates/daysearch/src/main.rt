@@ -34,7 +34,7 @@ struct Trial<'a, Ask, Accepts> {
 
 // What came of the routes under a pile: how many were refused, how many of those with a first day that marks a step, all
 // marks of first days summed up, and how many first days differed from the enumeration.
-#[derive(Clone, Copy, Default)]
+#[derive(Clone, Copy, PartialEq, Eq, Debug, Default)]
 struct Score {
     refused: u32,
     marked: u32,

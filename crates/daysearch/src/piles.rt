@@ -19,26 +19,23 @@ fn layer_over<B: Resource + Drop>(case: &Case, at: usize, below: B) -> Result<La
     Layer::new(layer.class, layer.most, below)
 }
 
-fn ask<R: Resource>(
-    pile: &R,
+fn ask_one<B: Resource + Drop>(
     case: &Case,
+    below: B,
     list: &mut [u8],
     work: &mut [u32],
 ) -> Result<bool, Refusal> {
+    let pile = layer_over(case, 0, below)?;
     pile.first_day(case.steps.as_slice(), list, work)
 }
 
-pub fn ask_one_over_time(case: &Case, list: &mut [u8], work: &mut [u32]) -> Result<bool, Refusal> {
-    let time = Time::new(case.figures.beginning)?;
-    let pile = layer_over(case, 0, time)?;
-    ask(&pile, case, list, work)
-}
-
-pub fn ask_two_over_time(case: &Case, list: &mut [u8], work: &mut [u32]) -> Result<bool, Refusal> {
-    let time = Time::new(case.figures.beginning)?;
-    let inner = layer_over(case, 1, time)?;
-    let pile = layer_over(case, 0, inner)?;
-    ask(&pile, case, list, work)
+fn ask_two<B: Resource + Drop>(
+    case: &Case,
+    below: B,
+    list: &mut [u8],
+    work: &mut [u32],
+) -> Result<bool, Refusal> {
+    ask_one(case, layer_over(case, 1, below)?, list, work)
 }
 
 fn ask_three<B: Resource + Drop>(
@@ -47,10 +44,15 @@ fn ask_three<B: Resource + Drop>(
     list: &mut [u8],
     work: &mut [u32],
 ) -> Result<bool, Refusal> {
-    let inner = layer_over(case, 2, below)?;
-    let middle = layer_over(case, 1, inner)?;
-    let pile = layer_over(case, 0, middle)?;
-    ask(&pile, case, list, work)
+    ask_two(case, layer_over(case, 2, below)?, list, work)
+}
+
+pub fn ask_one_over_time(case: &Case, list: &mut [u8], work: &mut [u32]) -> Result<bool, Refusal> {
+    ask_one(case, Time::new(case.figures.beginning)?, list, work)
+}
+
+pub fn ask_two_over_time(case: &Case, list: &mut [u8], work: &mut [u32]) -> Result<bool, Refusal> {
+    ask_two(case, Time::new(case.figures.beginning)?, list, work)
 }
 
 pub fn ask_product(case: &Case, list: &mut [u8], work: &mut [u32]) -> Result<bool, Refusal> {

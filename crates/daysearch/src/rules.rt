@@ -1,5 +1,5 @@
-// What the resources accept, said once more without rows. It shares nothing with them, not the figures under marks either,
-// so that it can judge them.
+// What the resources accept, said once more without rows. It has the names of classes and the ceiling from them, and no
+// figure or walk, not the figures under marks either, so that it can judge them.
 use records::step::Step;
 use resource::figures::{DEMAND, SERVE, TRAVEL};
 use resource::rows::CEILING;

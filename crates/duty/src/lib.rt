@@ -8,6 +8,7 @@ ghost use Rattle.resource.specs.Making.{figure_answer, figure_made};
 ghost use Rattle.duty.specs.Driving.{greatest_limit, driving, rests_in_time};
 ghost use Rattle.duty.specs.Laws.{driving_keeps, driving_lawful};
 
+use records::limits::MOST_SECONDS;
 use records::step::Step;
 use resource::figures::travel;
 use resource::questions::ask_figure;
@@ -16,13 +17,13 @@ use resource::refusal::Refusal;
 use resource::rows::BROKEN;
 
 // The greatest limit of the driving time.
-pub const GREATEST_LIMIT: u32 = 100_000;
+pub const GREATEST_LIMIT: u32 = MOST_SECONDS;
 
 // A row has one word: the driving time since the last rest.
 const WIDTH: usize = 1;
 
 // The driving time since the last rest, under a limit.
-#[derive(Clone, Copy)]
+#[derive(Clone, Copy, PartialEq, Eq, Debug)]
 pub struct Duty {
     // the longest driving time without a rest
     limit: u32,

@@ -2,12 +2,13 @@
 use Rattle.std.proofs.Common.{◌≡◌, ℕ, ◌*◌, ◌≤◌, Bool, true, false, cond, ◌&&◌, leb, List, ◌++◌, length, drop, is_some, Some, None, Ok, Err, Option, Result, refl, ap, ◌∙◌, arith}
 use Rattle.std.proofs.lemmas.List.{drop_at}
 use Rattle.std.proofs.lemmas.Bool.{cond-true, le-leb, and_from, both_ways}
+use Rattle.resource.specs.declared.refusal.Refusal.{Refusal}
 use Rattle.resource.specs.declared.refusal.Refusal.TheVariants.{OtherWidth, TooWide}
 use Rattle.resource.specs.Rows.{widest}
-use Rattle.resource.specs.Answers.{row_answer, day_answer, day_list}
+use Rattle.resource.specs.Answers.{row_answer, written, day_answer, day_list}
 
-pub ok_same : {T E : Type 0} (x y : T) → ◌≡◌ {A = Result T E} (Ok x) (Ok y) → x ≡ y
-ok_same x y e = cc
+pub now_written : {X : Type 0} (r : Result X Refusal) (x : X) (new old row : List ℕ) → r ≡ Ok x → row ≡ written r new old → row ≡ new
+now_written r x new old row granted is = is ∙ ap (λ q. written q new old) granted
 
 two_questions : {T E : Type 0} (a b : Bool) (p q : E) (x y : T) → ◌≡◌ {A = Result T E} (Ok x) (cond a (cond b (Ok y) (Err p)) (Err q)) → x ≡ y
 two_questions true true p q x y e = cc

@@ -13,6 +13,7 @@ ghost use Rattle.layered.proofs.Laws.{layered_lawful};
 ghost use Rattle.layered.proofs.Piles.{layered_judges};
 
 use crate::rows::Rows;
+use records::limits::MOST_BUDGET;
 use records::step::Step;
 use resource::interface::Resource;
 use resource::limits::{TOO_WIDE, WIDEST};
@@ -24,7 +25,7 @@ mod days;
 mod rows;
 
 // the greatest budget
-const GREATEST_BUDGET: u32 = 8;
+const GREATEST_BUDGET: u32 = MOST_BUDGET;
 
 // A budget layer: its row is one row of the resource below for each number of marks that a route may have taken from the
 // budget, from none to all of it.
@@ -95,7 +96,8 @@ impl<B: Resource> Resource for Layer<B> {
     }
 
     fn write_start(&self, into: &mut [u32]) -> Result<(), Refusal> {
-        self.ask_rows(into.len(), into.len())?.write_start(into)
+        self.ask_row(into.len())?.write_start(into);
+        Ok(())
     }
 
     fn extend(
@@ -105,8 +107,9 @@ impl<B: Resource> Resource for Layer<B> {
         from: &[u32],
         into: &mut [u32],
     ) -> Result<(), Refusal> {
-        self.ask_rows(from.len(), into.len())?
-            .extend(step, marks, from, into)
+        self.ask_row(from.len())?;
+        self.ask_row(into.len())?.extend(step, marks, from, into);
+        Ok(())
     }
 
     fn extend_onto(
@@ -116,16 +119,20 @@ impl<B: Resource> Resource for Layer<B> {
         from: &[u32],
         onto: &mut [u32],
     ) -> Result<(), Refusal> {
-        self.ask_rows(from.len(), onto.len())?
-            .extend_onto(step, marks, from, onto)
+        self.ask_row(from.len())?;
+        self.ask_row(onto.len())?
+            .extend_onto(step, marks, from, onto);
+        Ok(())
     }
 
     fn join_onto(&self, from: &[u32], onto: &mut [u32]) -> Result<(), Refusal> {
-        self.ask_rows(from.len(), onto.len())?.join_onto(from, onto)
+        self.ask_row(from.len())?;
+        self.ask_row(onto.len())?.join_onto(from, onto);
+        Ok(())
     }
 
     fn judge(&self, row: &[u32]) -> Result<bool, Refusal> {
-        let rows = self.ask_rows(row.len(), row.len())?;
+        let rows = self.ask_row(row.len())?;
         self.below.judge(rows.row(self.budget, row))
     }
 
@@ -140,7 +147,7 @@ impl<B: Resource> Resource for Layer<B> {
         ask_route(width, steps.len(), marks.len(), work.len())?;
         let rows = Rows { layer: self, wide };
         // the layer's own marks first: the scenarios are ordered by the outermost layer
-        if !rows.choose_day(steps, &mut marks[..steps.len()], work)? {
+        if !rows.choose_day(steps, &mut marks[..steps.len()], work) {
             return Ok(false);
         }
         self.below.first_day(steps, marks, work)

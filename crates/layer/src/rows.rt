@@ -1,15 +1,15 @@
-// The rows of a layer, one behind the other: each row is one of the resource below.
-ghost use Rattle.std.specs.Prelude.{◌≡◌, ℕ, ◌+◌, ◌*◌, ◌<◌, ◌≤◌, ◌&&◌, length, IfOk, OnOk, IfErr, ◌==◌};
+// The rows of a layer, by the rules one behind the other: each row is one of the resource below.
+ghost use Rattle.std.specs.Prelude.{◌≡◌, ℕ, ◌+◌, ◌*◌, ◌<◌, ◌≤◌, length, IfOk, ◌==◌};
 ghost use Rattle.resource.specs.Rows.{widest};
 ghost use Rattle.resource.specs.Answers.{row_answer};
 ghost use Rattle.resource.specs.Making.{figure_made};
 ghost use Rattle.layered.specs.Layered.{row_at};
 ghost use Rattle.layer.specs.Words.{rows_of, width_of};
-ghost use Rattle.layer.specs.Changes.{EachDone, OneRefused};
+ghost use Rattle.layer.specs.Changes.{EachDone};
 
 use crate::Layer;
 use resource::interface::Resource;
-use resource::questions::ask_rows;
+use resource::questions::ask_row;
 use resource::refusal::Refusal;
 
 // A layer that is not too wide, and how many words a row of the resource below has.
@@ -22,13 +22,13 @@ pub(crate) struct Rows<'a, B: Resource> {
 }
 
 impl<B: Resource> Layer<B> {
-    // Is the layer not too wide, and are two rows of its width?
-    pub(crate) fn ask_rows(&self, one: usize, other: usize) -> Result<Rows<'_, B>, Refusal>
-        ensures answer { figure_made (λ r. r.wide) result ≡ row_answer (width_of B.Resource self.now) (one == width_of B.Resource self.now && other == width_of B.Resource self.now) (B.Resource.width self.now.below) }
+    // Is the layer not too wide, and does a row have the layer's width?
+    pub(crate) fn ask_row(&self, words: usize) -> Result<Rows<'_, B>, Refusal>
+        ensures answer { figure_made (λ r. r.wide) result ≡ row_answer (width_of B.Resource self.now) (words == width_of B.Resource self.now) (B.Resource.width self.now.below) }
         ensures layer { IfOk result (λ r. r.layer.now ≡ self.now) }
     {
         let wide = self.below.row_width();
-        ask_rows((self.budget + 1) * wide, one, other)?;
+        ask_row((self.budget + 1) * wide, words)?;
         Ok(Rows { layer: self, wide })
     }
 }
@@ -53,24 +53,22 @@ impl<B: Resource> Rows<'_, B> {
     }
 }
 
-// Changes rows of a width one after the other, each by a call that is given its number. A row may have no words, so the
-// rows are cut by their numbers and not by `chunks_exact_mut`.
-pub(crate) fn change_rows<F: Fn(usize, &mut [u32]) -> Result<(), Refusal>>(
+// Changes rows of a width one after the other, each by a call that is given its number. The rows are cut by their numbers:
+// of what `chunks_exact_mut` lends, no more than the length is known afterwards.
+pub(crate) fn change_rows<F: Fn(usize, &mut [u32])>(
     count: usize,
     wide: usize,
     rows: &mut [u32],
     change: F,
-) -> Result<(), Refusal>
+)
     requires narrow { count * wide ≤ widest }
     requires rows { length rows.old ≡ count * wide }
     requires callable { (g : ℕ) (row : _) → g < count → length row.now ≡ wide → F.pre change g row }
     ensures width { length rows.new ≡ count * wide }
-    ensures done { OnOk result (EachDone (F.post change) wide count rows.old rows.new) }
-    ensures refused { IfErr result (OneRefused (F.post change) wide count) }
+    ensures done { EachDone (F.post change) wide count rows.old rows.new }
 {
     for g in 0..count {
         let at = g * wide;
-        change(g, &mut rows[at..at + wide])?;
+        change(g, &mut rows[at..at + wide]);
     }
-    Ok(())
 }

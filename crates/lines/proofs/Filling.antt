@@ -32,20 +32,7 @@ module _ (p : List ℕ) (i : ℕ) (h : i < length p) where
   pub next_byte : (ns : List ℕ) → (get_or p i 0 ≡ 35 → ⊥) → filled (drop i p) 0 ns ≡ get_or p i 0 ∷ filled (drop (i + 1) p) 0 ns
   next_byte ns e = ap (λ q. filled q 0 ns) (drop_more p i 0 h) ∙ at_byte (get_or p i 0) (drop (i + 1) p) 0 ns (ne_eqb _ 35 e)
 
-pub few_holes : (f : Form) → holes (template f) ≤ 10
-few_holes Day = omega arith
-few_holes Depot = omega arith
-few_holes Capacity = omega arith
-few_holes Drive = omega arith
-few_holes TravelBudget = omega arith
-few_holes ServeBudget = omega arith
-few_holes DemandBudget = omega arith
-few_holes Stops = omega arith
-few_holes Stop = omega arith
-few_holes Leg = omega arith
-few_holes End = omega arith
-
-pub short_template : (f : Form) → length (template f) + holes (template f) * 9 ≤ 162
+pub short_template : (f : Form) → length (template f) + holes (template f) * 9 ≤ 160
 short_template Day = omega arith
 short_template Depot = omega arith
 short_template Capacity = omega arith
@@ -81,10 +68,10 @@ pub record Filling (p ns : List ℕ) (i : ℕ) (done left : List ℕ) : Type 0 w
 
 module _ (p ns : List ℕ) (i : ℕ) (done left : List ℕ) (so : Filling p ns i done left) where
   -- what is written has room
-  pub has_room : (f : Form) → p ≡ template f → ((k : ℕ) → get_or ns k 0 < 2 ^ 32) → length done ≤ 162
+  pub has_room : (f : Form) → p ≡ template f → ((k : ℕ) → get_or ns k 0 < 2 ^ 32) → length done ≤ 160
   has_room f is small =
       let short : length (filled p 0 ns) ≤ length p + holes p * 9 = filled_short 9 p 0 ns (λ k. ten_digits (get_or ns k 0) (small k)) in
-      let most : length p + holes p * 9 ≤ 162 = subst (λ q. length q + holes q * 9 ≤ 162) (sym is) (short_template f) in
+      let most : length p + holes p * 9 ≤ 160 = subst (λ q. length q + holes q * 9 ≤ 160) (sym is) (short_template f) in
       omega (arith, simp length-append at (ap length so.text))
 
   module _ (h : i < length p) (done' : List ℕ) where

@@ -8,7 +8,8 @@ ghost use Rattle.lines.specs.Lines.{line_of, as_form, Parsed};
 use crate::scan::scan;
 use records::{Leg, Stop};
 
-// What a line says, with the numbers left out. Not one type with `Line`: a form is looked for before there are numbers.
+// What a line says, with the numbers left out. Not one type with `Line`: a form is looked for before there are numbers. The
+// three budgets are forms of their own, since each is due at a place of its own.
 #[derive(Clone, Copy, PartialEq, Eq, Debug)]
 pub enum Form {
     Day,

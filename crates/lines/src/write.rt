@@ -9,7 +9,7 @@ use arrayvec::ArrayVec;
 use itoa::Buffer;
 
 // No line has more bytes than that of a stop whose ten numbers have ten digits each.
-const LONGEST_LINE: usize = 162;
+const LONGEST_LINE: usize = 160;
 
 impl Form {
     // The form's bytes with the numbers in their places. (Not by `Display`: that does not say when writing succeeds.)

@@ -9,6 +9,7 @@ ghost use Rattle.load.specs.Carrying.{greatest_capacity, carrying, never_overloa
 ghost use Rattle.load.specs.Room.{carrying_keeps};
 ghost use Rattle.load.specs.Laws.{carrying_lawful};
 
+use records::limits::MOST_CRATES;
 use records::step::Step;
 use resource::figures::{deliver, pickup};
 use resource::questions::ask_figure;
@@ -17,13 +18,13 @@ use resource::refusal::Refusal;
 use resource::rows::BROKEN;
 
 // The greatest capacity of a van.
-pub const GREATEST_CAPACITY: u32 = 10_000;
+pub const GREATEST_CAPACITY: u32 = MOST_CRATES;
 
 // A row has two words: what is picked up, and the peak of what is carried.
 const WIDTH: usize = 2;
 
 // What is picked up and the peak of what is carried, under a capacity.
-#[derive(Clone, Copy)]
+#[derive(Clone, Copy, PartialEq, Eq, Debug)]
 pub struct Load {
     // the most that the van carries
     capacity: u32,

@@ -13,7 +13,7 @@ ghost use Rattle.resource.specs.Unmarked.{survives_unmarked};
 use records::step::Step;
 use resource::interface::Resource;
 use resource::limits::{TOO_WIDE, WIDEST};
-use resource::questions::ask_rows;
+use resource::questions::ask_row;
 use resource::refusal::Refusal;
 use resource::unlayered::Unlayered;
 
@@ -31,11 +31,12 @@ impl<First: Resource, Second: Resource> Pair<First, Second> {
     {
         let first = self.first.row_width();
         let width = first + self.second.row_width();
-        ask_rows(width, row.len(), row.len())?;
+        ask_row(width, row.len())?;
         Ok(first)
     }
 }
 
+// Each call is that call of both sides, on their parts of the rows.
 impl<First: Resource, Second: Resource> Resource for Pair<First, Second> {
     ghost width = { λ p. pair_width (First.Resource.width p.first) (Second.Resource.width p.second) };
 
@@ -128,6 +129,7 @@ impl<First: Resource, Second: Resource> Resource for Pair<First, Second> {
         marks: &mut [u8],
         work: &mut [u32],
     ) -> Result<bool, Refusal> {
+        // as of a recursion; a body in the trait would be any layer's too
         let accepted = self.judge_route(steps, marks, work)?;
         Ok(!accepted)
     }

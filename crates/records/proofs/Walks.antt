@@ -1,16 +1,13 @@
 -- The loops over a route. Assumes nothing.
 use Rattle.std.proofs.Common.{◌≡◌, ℕ, zero, suc, ◌+◌, ◌<◌, ◌≤◌, true, List, [], ◌∷◌, ◌++◌, length, get_or, drop, set, sym, refl, ap, ◌∙◌, arith}
 use Rattle.std.proofs.lemmas.List.{drop_more, at_drop_all}
-use Rattle.std.proofs.lemmas.Bool.{and_parts, leb-true, eqb-true}
+use Rattle.std.proofs.lemmas.Bool.{and_parts, leb-true}
 use Rattle.records.specs.declared.Stop.{Stop}
 use Rattle.records.specs.declared.Leg.{Leg}
 use Rattle.records.specs.declared.step.Step.{Step}
 use Rattle.records.specs.Records.{window_only}
 use Rattle.records.proofs.Writing.{Sofar, nothing_yet, one_written, all_written}
-use Rattle.records.specs.Steps.{stop_of, leg_of, step_count, steps_from, steps_of, in_table, are_stops, tables_fit}
-
-pub table_lengths : (ss : List Stop) (ls : List Leg) → tables_fit ss ls ≡ true → (length ss ≡ 41) × (length ls ≡ 1681)
-table_lengths ss ls fit = let p = and_parts _ _ fit in (eqb-true (length ss) 41 p.0, eqb-true (length ls) 1681 p.1)
+use Rattle.records.specs.Steps.{stop_of, leg_of, steps_from, in_table, are_stops}
 
 pub stop_at_lem : (ks : List ℕ) (i : ℕ) → i < length ks → are_stops ks ≡ true → get_or ks i 0 ≤ 40
 stop_at_lem [] i h t = absurd (omega arith)
@@ -47,11 +44,3 @@ module _ (ss : List Stop) (ls : List Leg) (ks : List ℕ) (old out : List Step) 
   pub walk_home : (s : Step) → at ≡ length ks → s ≡ record { leg = leg_of ls from 0; stop = window_only (stop_of ss 0).opens (stop_of ss 0).closes } → set out (length ks) s ≡ steps_from ss ls 0 ks ++ drop (length ks + 1) old
   walk_home s all e =
       ap (λ n. set out n s) (sym all) ∙ all_written _ _ _ _ _ (one_written _ _ _ _ _ w.sofar short s [] (at_drop_all (steps_from ss ls from) ks at (omega arith) ∙ ap (λ q. q ∷ []) (sym e))) refl ∙ ap (λ n. steps_from ss ls 0 ks ++ drop n old) (length_steps ss ls 0 ks)
-
-pub steps_some : (ss : List Stop) (ls : List Leg) (ks : List ℕ) → 0 < step_count ks → (steps_from ss ls 0 ks ≡ steps_of ss ls ks) × (length ks + 1 ≡ step_count ks)
-steps_some ss ls [] h = absurd (omega arith)
-steps_some ss ls (k ∷ ks) h = (refl, refl)
-
-pub steps_none : (ss : List Stop) (ls : List Leg) (ks : List ℕ) → step_count ks ≤ 0 → steps_of ss ls ks ≡ []
-steps_none ss ls [] h = refl
-steps_none ss ls (k ∷ ks) h = absurd (omega arith)

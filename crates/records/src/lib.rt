@@ -15,7 +15,8 @@ pub const STOP_RECORDS: usize = MOST_STOPS as usize + 1;
 // How many records the leg table has: one for each ordered pair of places.
 pub const LEG_RECORDS: usize = STOP_RECORDS * STOP_RECORDS;
 
-// A stop, or the depot where it is record 0 of the stop table.
+// A stop, or the depot where it is record 0 of the stop table. Its figures stand one by one, as the rules list them, and
+// not in pairs with their deviations.
 #[derive(Clone, Copy, PartialEq, Eq, Debug, Default)]
 pub struct Stop {
     // the window in which a van may arrive

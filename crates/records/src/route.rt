@@ -19,7 +19,7 @@ pub fn window_only(opens: u32, closes: u32) -> Stop
     }
 }
 
-// Whether a number is that of a stop, and not of the depot.
+// Whether a number is that of a stop, and not of the depot. (Routes and counts of stops have ranges of their own.)
 pub fn is_stop(number: u32) -> bool
     ensures { result ≡ is_stop number }
 {
@@ -46,6 +46,7 @@ fn fill_steps(route: &[u32], tables: Tables, out: &mut [Step])
     ensures { out.new ≡ steps_from tables.entry.stops.now tables.entry.legs.now 0 route.now ++ drop (length route.now + 1) out.old }
 {
     let mut from = 0;
+    // `out[at]` and no `zip`: of what an adapter of `iter_mut` writes nothing is known afterwards
     for (at, k) in route.iter().enumerate() {
         let k = *k as usize;
         let leg = tables.legs[STOP_RECORDS * from + k];

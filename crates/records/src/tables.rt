@@ -5,7 +5,7 @@ ghost use Rattle.records.specs.Steps.{tables_fit};
 use crate::{LEG_RECORDS, Leg, STOP_RECORDS, Stop};
 
 // The stops, of which record 0 is the depot, and the legs: by the rules one list, with the leg from i to j at 41 × i + j.
-#[derive(Clone, Copy)]
+#[derive(Clone, Copy, PartialEq, Eq, Debug)]
 pub struct Tables<'a> {
     pub stops: &'a [Stop; STOP_RECORDS],
     pub legs: &'a [Leg; LEG_RECORDS],

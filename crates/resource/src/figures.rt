@@ -13,7 +13,7 @@ pub const SERVE: u8 = 2;
 
 pub const DEMAND: u8 = 4;
 
-// A figure, to which a mark of its class adds the deviation.
+// A figure, to which a mark of its class adds the deviation. The four below say which figure and which class.
 fn under_marks(class: u8, marks: u8, figure: u32, deviation: u32) -> u64
     ensures figure { result ≡ marked class marks figure deviation }
     ensures small { result < 2 ^ 33 }

@@ -4,7 +4,7 @@ use records::STOP_RECORDS;
 // The widest row that a resource may have.
 pub const WIDEST: usize = 4096;
 
-// The width that means too wide.
+// The width that means too wide: a number by the rules, and no `None`.
 pub const TOO_WIDE: usize = WIDEST + 1;
 
 // The most steps of a route: one for each stop that a day may have, and one for the depot.

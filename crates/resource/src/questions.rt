@@ -1,5 +1,5 @@
 // The questions that the calls of a resource put first.
-ghost use Rattle.std.specs.Prelude.{◌≡◌, ◌&&◌, true, ◌==◌};
+ghost use Rattle.std.specs.Prelude.{◌≡◌, ◌==◌};
 ghost use Rattle.resource.specs.Answers.{row_answer, route_answer};
 ghost use Rattle.resource.specs.Making.{figure_answer};
 
@@ -16,14 +16,14 @@ pub fn ask_figure(most: u32, figure: u32) -> Result<u32, Refusal>
     Ok(figure)
 }
 
-// Is the width not too wide, and are two rows of it? Where a call has one row, its length is given twice.
-pub fn ask_rows(width: usize, one: usize, other: usize) -> Result<(), Refusal>
-    ensures { result ≡ row_answer width (one == width && other == width) tt }
+// Is the width not too wide, and does a row have so many words?
+pub fn ask_row(width: usize, words: usize) -> Result<(), Refusal>
+    ensures { result ≡ row_answer width (words == width) tt }
 {
     if width > WIDEST {
         return Err(Refusal::TooWide);
     }
-    if one != width || other != width {
+    if words != width {
         return Err(Refusal::OtherWidth);
     }
     Ok(())

@@ -73,7 +73,7 @@ pub trait Recursion {
     ghost accepts_what_keeps: { (r : Self) (ss : List RouteStep) (ms : List ℕ) → own_verdict sound (extension r) (begins r) ss ms ≡ keeps r ss ms };
 }
 
-// What a step makes of a row; none of a row of another width.
+// What a step makes of a row; refused of a row of another width.
 fn next_row<R: Recursion>(
     resource: &R,
     step: &Step,

@@ -18,7 +18,7 @@ use resource::rows::BROKEN;
 // The greatest limit of either number.
 pub const GREATEST_LIMIT: u32 = 1_000;
 
-// A class that changes no figure of a step.
+// A class that changes no figure of a step: one of the five bits that have no name.
 pub const FREE: u8 = 8;
 
 // The classes that make a leg late.
@@ -28,7 +28,7 @@ const LATE: u8 = TRAVEL | FREE;
 const WIDTH: usize = 2;
 
 // The number of stops and of late legs so far, under their limits.
-#[derive(Clone, Copy)]
+#[derive(Clone, Copy, PartialEq, Eq, Debug)]
 pub struct Tally {
     most_stops: u32,
     most_late: u32,
@@ -72,7 +72,7 @@ impl Recursion for Tally {
     // The numbers after the step's stop; the broken row where one is above its limit.
     fn next(&self, step: &Step, marks: u8, [stops, late]: [u32; WIDTH]) -> [u32; WIDTH] {
         let new_stops = stops as u64 + 1;
-        let new_late = late as u64 + if marks & LATE == 0 { 0 } else { 1 };
+        let new_late = late as u64 + u64::from(marks & LATE != 0);
         // a word above the ceiling is above every limit, so it needs no test of its own
         if new_stops > self.most_stops as u64 || new_late > self.most_late as u64 {
             [BROKEN; WIDTH]

@@ -2,3 +2,4 @@ pub mod Routes
 pub mod Travel
 pub mod Stored
 pub mod Standing
+pub mod Tables

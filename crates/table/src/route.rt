@@ -12,7 +12,8 @@ mod travel;
 // How many stops a route has room for: all that a day may have.
 pub const ROUTE_PLACES: usize = MOST_STOPS as usize;
 
-// Contracts see the list of the stops. There is no heap, so it lies in an array, whose places behind it hold 0.
+// Contracts see the list of the stops. It lies in an array, whose places behind it hold 0, and not in an `ArrayVec`, which
+// is not `Copy`: tables are changed by value.
 #[derive(Clone, Copy, PartialEq, Eq, Debug)]
 pub struct Route {
     stops: [u32; ROUTE_PLACES],
@@ -34,7 +35,7 @@ impl Model for Route {
     ghost inverse_ok = { λ r h i. record { stops = given_back r.stops r.len h i; len = as_long r.stops r.len h i } };
 }
 
-// A route without stops.
+// A route without stops. Written by hand, so that its contract says that it is the empty list.
 impl Default for Route {
     ghost is_default = { λ r. r ≡ [] };
 

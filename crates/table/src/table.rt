@@ -1,9 +1,9 @@
 // The routes of a plan.
 ghost use Rattle.std.specs.Prelude.{◌≡◌};
 ghost use Rattle.table.specs.Routes.{no_stops};
+ghost use Rattle.table.specs.Standing.{IsPlan};
 
 use crate::route::Route;
-use std::marker::Model;
 
 mod changes;
 mod travel;
@@ -11,28 +11,16 @@ mod travel;
 // How many routes a plan has.
 pub const ROUTES: usize = 8;
 
-// A plan's routes: no stop stands on them twice. Contracts see the list of the routes, each the list of its stops.
+// A plan's routes: no stop stands on them twice, and they have stops alone on them.
 #[derive(Clone, Copy, PartialEq, Eq, Debug)]
 pub struct Table {
     routes: [Route; ROUTES],
+    ghost plan: { IsPlan routes },
 }
 
-impl Model for Table {
-    ghost use Rattle.table.specs.Routes.{Routes};
-    ghost use Rattle.table.specs.Standing.{IsPlan};
-
-    ghost Value = { Routes };
-
-    ghost view = { λ t. t.routes };
-
-    ghost invariant = { λ t. IsPlan t.routes };
-
-    ghost inverse = { λ rs. record { routes = rs } };
-}
-
-// The routes of a new plan: all empty. A derived one would say what each route is, and name no plan.
+// The routes of a new plan: all empty. Written by hand, since none is derived on a struct with a ghost field.
 impl Default for Table {
-    ghost is_default = { λ t. t ≡ no_stops };
+    ghost is_default = { λ t. t.routes ≡ no_stops };
 
     fn default() -> Table {
         Table {

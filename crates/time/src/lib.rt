@@ -8,6 +8,7 @@ ghost use Rattle.resource.specs.Making.{figure_answer, figure_made};
 ghost use Rattle.time.specs.Hours.{latest_beginning, hours, on_time};
 ghost use Rattle.time.specs.Laws.{hours_keep, hours_lawful};
 
+use records::limits::MOST_SECONDS;
 use records::step::Step;
 use resource::figures::{serve, travel};
 use resource::questions::ask_figure;
@@ -16,13 +17,13 @@ use resource::refusal::Refusal;
 use resource::rows::{BROKEN, CEILING};
 
 // The latest hour at which a route may begin.
-pub const LATEST_BEGINNING: u32 = 100_000;
+pub const LATEST_BEGINNING: u32 = MOST_SECONDS;
 
 // A row has one word: the hour of leaving.
 const WIDTH: usize = 1;
 
 // The hour of leaving, under time windows.
-#[derive(Clone, Copy)]
+#[derive(Clone, Copy, PartialEq, Eq, Debug)]
 pub struct Time {
     // the hour of leaving the depot
     beginning: u32,

@@ -19,7 +19,7 @@ fn leg_travel(tables: Tables, from: u32, to: u32) -> u64
 }
 
 impl Route {
-    // The travel of all steps: the stops' records have no part in it.
+    // The travel of all steps.
     pub(crate) fn travel(&self, tables: Tables) -> u64
         ensures travel { result ≡ travel_of (steps_of tables.entry.stops.now tables.entry.legs.now self.now) }
         ensures small { result < stop_records * 2 ^ 32 }

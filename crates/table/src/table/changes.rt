@@ -4,7 +4,8 @@ ghost use Rattle.std.specs.Option.{option_map};
 ghost use Rattle.records.specs.Limits.{most_stops};
 ghost use Rattle.records.specs.Steps.{are_stops};
 ghost use Rattle.table.specs.Routes.{no_stops, holds, route_of, route_with, placed, dropped};
-ghost use Rattle.table.specs.Standing.{IsPlan, is_route, fits_in};
+ghost use Rattle.table.specs.Standing.{is_route, fits_in};
+ghost use Rattle.table.specs.Tables.{routes_in};
 
 use super::{ROUTES, Spot, Table};
 use records::route::is_stop;
@@ -19,18 +20,16 @@ fn is_route(number: u32) -> bool
 impl Table {
     // The routes of a new plan: all empty.
     pub fn new() -> Table
-        ensures value { result ≡ no_stops }
-        ensures plan { IsPlan result }
+        ensures { routes_in result ≡ no_stops }
     {
         Table::default()
     }
 
     // The stops of a route, or none where no route has the number.
     pub fn route(&self, number: u32) -> Option<&[u32]>
-        ensures value { option_map (λ x. x.now) result ≡ (if is_route number then Some (route_of self.now number) else None) }
+        ensures value { option_map (λ x. x.now) result ≡ (if is_route number then Some (route_of (routes_in self.now) number) else None) }
         ensures stops { IfSome result (λ x. are_stops x.now ≡ true) }
         ensures short { IfSome result (λ x. length x.now ≤ most_stops) }
-        ensures plan { IsPlan self.now }
     {
         if is_route(number) {
             Some(self.routes[number as usize - 1].stops())
@@ -41,23 +40,21 @@ impl Table {
 
     // The place in the array of the route on which a stop stands.
     fn place_of(&self, stop: u32) -> Option<usize>
-        ensures value { result ≡ position (holds stop) self.now }
-        ensures plan { IsPlan self.now }
+        ensures { result ≡ position (holds stop) (routes_in self.now) }
     {
         self.routes.iter().position(|route| route.contains(stop))
     }
 
     // The number of the route on which a stop stands.
     pub fn route_with(&self, stop: u32) -> Option<u32>
-        ensures value { result ≡ route_with stop self.now }
-        ensures plan { IsPlan self.now }
+        ensures { result ≡ route_with stop (routes_in self.now) }
     {
         Some(self.place_of(stop)? as u32 + 1)
     }
 
     // Whether a stop is free and a spot is one where it can be put in: before a stop of a route, or behind the last.
     fn fits_in(&self, stop: u32, spot: Spot) -> bool
-        ensures { result ≡ fits_in stop spot self.now }
+        ensures { result ≡ fits_in stop spot (routes_in self.now) }
     {
         is_stop(stop)
             && self.place_of(stop).is_none()
@@ -68,26 +65,27 @@ impl Table {
 
     // The table with a stop put in at a spot. None where the number is not that of a stop, where the stop stands on a
     // route already, or where no route has the spot.
-    pub fn placed(mut self, stop: u32, spot: Spot) -> Option<Table>
-        ensures value { result ≡ (if fits_in stop spot self then Some (placed stop spot self) else None) }
-        ensures plan { IfSome result IsPlan }
+    pub fn placed(self, stop: u32, spot: Spot) -> Option<Table>
+        ensures { option_map routes_in result ≡ (if fits_in stop spot (routes_in self) then Some (placed stop spot (routes_in self)) else None) }
     {
         if !self.fits_in(stop, spot) {
             return None;
         }
         let at = spot.route as usize - 1;
-        self.routes[at].insert(spot.place as usize, stop);
-        Some(self)
+        let mut routes = self.routes;
+        routes[at].insert(spot.place as usize, stop);
+        Some(Table { routes })
     }
 
     // The table with a stop taken off its route. The same routes where none has it.
-    pub fn dropped(mut self, stop: u32) -> Table
-        ensures value { result ≡ dropped stop self }
-        ensures plan { IsPlan result }
+    pub fn dropped(self, stop: u32) -> Table
+        ensures { routes_in result ≡ dropped stop (routes_in self) }
     {
-        if let Some(at) = self.place_of(stop) {
-            self.routes[at].remove(stop);
-        }
-        self
+        let Some(at) = self.place_of(stop) else {
+            return self;
+        };
+        let mut routes = self.routes;
+        routes[at].remove(stop);
+        Table { routes }
     }
 }

@@ -7,11 +7,11 @@ use Rattle.layered.proofs.FirstDays.{length-first_day}
 use Rattle.layered.proofs.Piles.{no_day, first_day-chosen, chosen_found}
 use Rattle.layered.proofs.Widths.{counted, counted_below}
 use Rattle.resource.proofs.Runs.{asked}
-use Rattle.layer.proofs.Answered.{ok_same, day_granted, day_list_lem}
+use Rattle.layer.proofs.Answered.{day_granted, day_list_lem}
 use Rattle.layer.proofs.LayerResource.first_day.Goals as goal
 
-pub returns-then-not-branch : goal.returns-then-not-branch
-returns-then-not-branch g c =
+pub returns-then-not-choose_day : goal.returns-then-not-choose_day
+returns-then-not-choose_day g c =
     let l = c.args.self.now in
     let r = g.B.Resource in
     let n = length c.args.steps.now in
@@ -21,11 +21,11 @@ returns-then-not-branch g c =
     let wide = counted_below l.budget c.row_width-wide.result w c.row_width-wide.ensures grant.narrow in
     let width = counted l.budget c.row_width-wide.result w c.row_width-wide.ensures grant.narrow in
     let judges = g.met.B.Resource.judges_every_scenario l.below wide in
-    let all = not-false _ (sym (ok_same _ _ c.in_ok-choose_day.ensures.answer) ∙ c.if-not-branch.true) in
+    let all = not-false _ (sym c.choose_day.ensures.answer ∙ c.if-not-choose_day.true) in
     let none = no_day (r.start l.below) (r.extension l.below) (r.verdict l.below) (r.layers l.below) (r.accepts l.below) judges (record { class = l.class; most = l.budget }) c.args.steps.now ms (length-take n c.args.marks.now ∙ omega arith) all in
     record {
       answer = ap (λ d. Ok (is_some d)) (sym none) ∙ sym (day_granted _ n (length c.args.marks.now) (length c.args.work.now) _ (omega arith) (omega arith) (omega arith) (omega arith));
-      list = ap (λ z. z ++ drop n c.args.marks.now) (c.in_ok-choose_day.ensures.list ∙ cond-true _ _ _ all)
+      list = ap (λ z. z ++ drop n c.args.marks.now) (c.choose_day.ensures.list ∙ cond-true _ _ _ all)
           ∙ take-append-drop n c.args.marks.now ∙ sym (ap (λ d. day_list (Ok false) d c.args.marks.now) none);
     }
 
@@ -44,9 +44,9 @@ returns g c =
     let width = counted l.budget c.row_width-wide.result w c.row_width-wide.ensures grant.narrow in
     let judges = g.met.B.Resource.judges_every_scenario l.below wide in
     let long : length ms ≡ n = length-take n old ∙ omega arith in
-    let refused = not-true _ (sym (ok_same _ _ c.in_ok-choose_day.ensures.answer) ∙ c.if-not-branch.false) in
+    let refused = not-true _ (sym c.choose_day.ensures.answer ∙ c.if-not-choose_day.false) in
     let new = c.choose_day.new.marks in
-    let chose = c.in_ok-choose_day.ensures.list ∙ cond-false _ _ _ refused in
+    let chose = c.choose_day.ensures.list ∙ cond-false _ _ _ refused in
     let sized : length new ≡ n = omega arith in
     let fd = first_day (r.accepts l.below) (b ∷ r.layers l.below) ss ms in
     let same = first_day-chosen (r.start l.below) (r.extension l.below) (r.verdict l.below) (r.layers l.below) (r.accepts l.below) judges b ss ms long refused in

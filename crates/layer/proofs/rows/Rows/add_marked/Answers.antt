@@ -14,9 +14,6 @@ returns g c =
     let join = g.B.Resource.join l.below in
     let ext = g.B.Resource.extension l.below c.args.step.now (bit_or c.args.marks l.class) in
     let added = c.extend_each_onto.ensures in
-    record {
-      answer = added.answer;
-      row = put_rest w onto c.extend_each_onto.new.onto
-          ∙ ap (λ z. take w onto ++ z) (added.row ∙ ap (λ x. rows n (λ k. join (row_at w x k) (ext (row_at w (take (n * w) c.args.from.now) k)))) (take_rest onto w))
-          ∙ lower_added w n join ext c.args.from.now onto;
-    }
+    put_rest w onto c.extend_each_onto.new.onto
+    ∙ ap (λ z. take w onto ++ z) (added ∙ ap (λ x. rows n (λ k. join (row_at w x k) (ext (row_at w (take (n * w) c.args.from.now) k)))) (take_rest onto w))
+    ∙ lower_added w n join ext c.args.from.now onto

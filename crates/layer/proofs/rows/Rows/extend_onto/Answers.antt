@@ -9,9 +9,6 @@ returns g c =
     let l = c.args.self.now.layer.now in
     let law = laws_below c.args.self.now.wide l.budget (g.met.B.Resource.lawful l.below) c.args.self.now.below c.args.self.now.narrow in
     let added = λ (m : ℕ) (y : List ℕ). rows (suc l.budget) (join_lower (g.B.Resource.join l.below) (row_at c.args.self.now.wide y) (λ k. g.B.Resource.extension l.below c.args.step.now m (row_at c.args.self.now.wide c.args.from.now k))) in
-    record {
-      answer = c.add_marked.ensures.answer;
-      row = c.add_marked.ensures.row
-          ∙ ap (added (bit_or c.args.marks l.class)) (c.extend_each_onto.ensures.row ∙ ap (λ n. rows n (λ k. g.B.Resource.join l.below (row_at c.args.self.now.wide c.args.onto.now k) (g.B.Resource.extension l.below c.args.step.now c.args.marks (row_at c.args.self.now.wide c.args.from.now k)))) c.count.ensures)
-          ∙ extended_onto law l.class l.budget c.args.step.now c.args.marks c.args.from.now c.requires.from c.args.onto.now c.requires.onto;
-    }
+    c.add_marked.ensures
+    ∙ ap (added (bit_or c.args.marks l.class)) (c.extend_each_onto.ensures ∙ ap (λ n. rows n (λ k. g.B.Resource.join l.below (row_at c.args.self.now.wide c.args.onto.now k) (g.B.Resource.extension l.below c.args.step.now c.args.marks (row_at c.args.self.now.wide c.args.from.now k)))) c.count.ensures)
+    ∙ extended_onto law l.class l.budget c.args.step.now c.args.marks c.args.from.now c.requires.from c.args.onto.now c.requires.onto

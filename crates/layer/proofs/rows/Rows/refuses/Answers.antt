@@ -1,4 +1,4 @@
-use Rattle.std.proofs.Common.{not, eqb, length, Ok, ap, ◌∙◌, arith}
+use Rattle.std.proofs.Common.{not, eqb, length, sym, ap, ◌∙◌, arith}
 use Rattle.resource.specs.Rows.{run}
 use Rattle.layered.specs.Layered.{row_at, layered_extension}
 use Rattle.layered.proofs.Runs.{verdict_of_run}
@@ -13,9 +13,9 @@ returns g c =
     let law = laws_below w l.budget (g.met.B.Resource.lawful l.below) c.args.self.now.below c.args.self.now.narrow in
     let part = c.row.result.now in
     let below = g.B.Resource.width l.below in
-    let judged = granted below (eqb (length part) below) c.in_ok-judge.field-0 (g.B.Resource.verdict l.below part) c.in_ok-judge.ensures in
-    let state = c.run_on.ensures.row ∙ ap (run (layered_extension l.class l.budget w (g.B.Resource.extension l.below) (g.B.Resource.join l.below)) c.args.steps.now c.args.marks.now) c.fill.ensures.row in
-    ap (λ b. Ok (not b))
+    let judged = granted below (eqb (length part) below) c.unwrap.result (g.B.Resource.verdict l.below part) (sym c.unwrap.ensures ∙ c.judge.ensures) in
+    let state = c.run_on.ensures ∙ ap (run (layered_extension l.class l.budget w (g.B.Resource.extension l.below) (g.B.Resource.join l.below)) c.args.steps.now c.args.marks.now) c.fill.ensures in
+    ap not
     (judged
     ∙ ap (g.B.Resource.verdict l.below) (c.row.ensures.value ∙ ap (λ x. row_at w x c.args.left) state)
     ∙ verdict_of_run law l.class l.budget c.args.steps.now c.args.marks.now c.args.row.now c.requires.marks c.requires.row c.args.left (omega arith))

@@ -7,5 +7,4 @@ returns g c =
     let b = c.args.self.now.layer.now.below in
     let w = c.args.self.now.wide in
     let e = c.change_rows.ensures in
-    let all = all_changed _ w _ _ c.count.ensures (λ _ _. g.B.Resource.start b) c.args.into.now c.change_rows.new.rows (λ k found left answer h long m. (search rules, search rules)) c.requires.into e.width c.change_rows.result e.done e.refused in
-    record { answer = all.0; row = all.1 }
+    all_changed _ w _ _ c.count.ensures (λ _ _. g.B.Resource.start b) c.args.into.now c.change_rows.new.rows (λ k found left h long m. search rules) c.requires.into e.width e.done

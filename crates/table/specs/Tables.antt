@@ -1,0 +1,6 @@
+-- The routes of a table. Assumes nothing.
+use Rattle.table.specs.declared.table.Table.{Table}
+use Rattle.table.specs.Routes.{Routes}
+
+abbrev pub routes_in : Table → Routes
+routes_in t = t.routes
