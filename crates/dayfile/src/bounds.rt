@@ -28,7 +28,7 @@ fn is_quantity(crates: u32) -> bool
     crates <= MOST_CRATES
 }
 
-// Whether a day may have so many stops.
+// Whether a day may have so many stops. (The range of a stop's number, of another thing.)
 pub(crate) fn is_count(stops: u32) -> bool
     ensures { result ≡ is_count stops }
 {

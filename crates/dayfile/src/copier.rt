@@ -6,7 +6,8 @@ use crate::refusal::CopyRefusal;
 use crate::writer::write;
 use records::{Leg, Stop};
 
-// Reads a text into the tables and writes the day to the front of the buffer; the bytes are the same. Gives their number.
+// Reads a text into the tables and writes the day to the front of the buffer, by the rules memory of the caller; the bytes
+// are the same. Gives their number.
 pub fn copy_day(
     text: &[u8],
     stops: &mut [Stop],

@@ -1,4 +1,5 @@
-// What the reader expects next: a form, and which one of its kind.
+// What the reader expects next: a form, and which one of its kind. Not one type with `Form`: a stop and a leg have numbers
+// here, and each budget is due at a place of its own.
 
 #[derive(Clone, Copy, PartialEq, Eq, Debug)]
 pub enum Expectation {

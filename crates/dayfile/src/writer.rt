@@ -26,8 +26,8 @@ fn write_lines(day: Day, buffer: &mut [u8]) -> usize
     at
 }
 
-// Writes the day's text to the front of the buffer, and gives its length. The tables have 41 and 1,681 records, the buffer
-// 65,536 bytes or more. A refusal writes nothing.
+// Writes the day's text to the front of the buffer, by the rules memory of the caller, and gives its length. The tables
+// have 41 and 1,681 records, the buffer 65,536 bytes or more. A refusal writes nothing.
 pub fn write(
     head: Head,
     stops: &[Stop],

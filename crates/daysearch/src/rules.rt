@@ -60,6 +60,7 @@ pub fn in_time(beginning: u32, steps: &[Step], marks: &[u8]) -> bool {
     true
 }
 
+// In the loop, since the library's `sum` does not saturate.
 fn to_deliver(steps: &[Step], marks: &[u8]) -> u64 {
     let mut sum = 0u64;
     for (step, mark) in steps.iter().zip(marks) {

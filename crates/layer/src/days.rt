@@ -9,7 +9,8 @@ use records::step::Step;
 use resource::interface::Resource;
 
 impl<B: Resource> Rows<'_, B> {
-    // What a route makes of the layer's row `state`, which need not be the start row, as in `judge_route`.
+    // What a route makes of the layer's row `state`. Not the loop of `judge_route`, which begins at the start row: this need
+    // not.
     fn run_on(&self, steps: &[Step], marks: &[u8], state: &mut [u32], next: &mut [u32])
         requires marks { length marks.now ≡ length steps.now }
         requires state { length state.old ≡ rows_of self.now.layer.now * self.now.wide }

@@ -41,7 +41,7 @@ impl<B: Resource> Rows<'_, B> {
         self.layer.budget + 1
     }
 
-    // Row number g.
+    // Row number g. (A plain number with a precondition: a type for it would have to lend the layer again.)
     pub(crate) fn row<'r>(&self, g: usize, rows: &'r [u32]) -> &'r [u32]
         requires number { g ≤ self.now.layer.now.budget }
         requires rows { length rows.now ≡ rows_of self.now.layer.now * self.now.wide }

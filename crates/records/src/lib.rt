@@ -15,8 +15,8 @@ pub const STOP_RECORDS: usize = MOST_STOPS as usize + 1;
 // How many records the leg table has: one for each ordered pair of places.
 pub const LEG_RECORDS: usize = STOP_RECORDS * STOP_RECORDS;
 
-// A stop, or the depot where it is record 0 of the stop table. Its figures stand one by one, as the rules list them, and
-// not in pairs with their deviations.
+// A stop, or the depot where it is record 0 of the stop table. Its figures stand one by one, as the rules list them: no
+// pair of a figure and its deviation, and none of opening and closing.
 #[derive(Clone, Copy, PartialEq, Eq, Debug, Default)]
 pub struct Stop {
     // the window in which a van may arrive
@@ -35,7 +35,8 @@ pub struct Stop {
     pub rest: u32,
 }
 
-// The way from one place to another: its planned driving time, and by how much it may run late.
+// The way from one place to another: its planned driving time, and by how much it may run late, one by one as the rules
+// list them.
 #[derive(Clone, Copy, PartialEq, Eq, Debug, Default)]
 pub struct Leg {
     pub travel: u32,

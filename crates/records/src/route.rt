@@ -45,6 +45,7 @@ fn fill_steps(route: &[u32], tables: Tables, out: &mut [Step])
     requires room { length route.now + 1 ≤ length out.old }
     ensures { out.new ≡ steps_from tables.entry.stops.now tables.entry.legs.now 0 route.now ++ drop (length route.now + 1) out.old }
 {
+    // each leg starts where the one before it ends, so the place is carried on
     let mut from = 0;
     // `out[at]` and no `zip`: of what an adapter of `iter_mut` writes nothing is known afterwards
     for (at, k) in route.iter().enumerate() {

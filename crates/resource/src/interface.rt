@@ -60,6 +60,7 @@ pub trait Resource {
         ensures { result ≡ row_answer (width self.now) (length row.now == width self.now) (verdict self.now row.now) };
 
     // Whether the resource under the layers accepts the steps in every scenario, the marks in the list counting in each.
+    // Steps, marks and work slice are memory of the caller by the rules, so steps and marks are two lists.
     // What the work slice then holds is left open.
     fn judge_route(&self, steps: &[Step], marks: &[u8], work: &mut [u32]) -> Result<bool, Refusal>
         ensures { result ≡ day_answer (width self.now) (length steps.now) (length marks.now) (length work.old) (survives (accepts self.now) (layers self.now) steps.now (take (length steps.now) marks.now)) }

@@ -151,6 +151,7 @@ impl<R: Recursion> Resource for R {
         marks: &mut [u8],
         work: &mut [u32],
     ) -> Result<bool, Refusal> {
+        // as of a pair; a body in the trait would be any layer's too
         let accepted = self.judge_route(steps, marks, work)?;
         Ok(!accepted)
     }

@@ -18,10 +18,11 @@ use resource::rows::BROKEN;
 // The greatest limit of either number.
 pub const GREATEST_LIMIT: u32 = 1_000;
 
-// A class that changes no figure of a step: one of the five bits that have no name.
+// A class that changes no figure of a step: one of the five bits that have no name. A number and no enum, since by the
+// rules marks are the caller's bytes.
 pub const FREE: u8 = 8;
 
-// The classes that make a leg late.
+// The classes that make a leg late: bits of the caller's bytes, as all classes.
 const LATE: u8 = TRAVEL | FREE;
 
 // A row has two words: the number of stops, and that of late legs.

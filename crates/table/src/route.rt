@@ -12,8 +12,8 @@ mod travel;
 // How many stops a route has room for: all that a day may have.
 pub const ROUTE_PLACES: usize = MOST_STOPS as usize;
 
-// Contracts see the list of the stops. It lies in an array, whose places behind it hold 0, and not in an `ArrayVec`, which
-// is not `Copy`: tables are changed by value.
+// Contracts see the list of the stops. It lies in an array, which takes no heap and whose places behind it hold 0, and not in
+// an `ArrayVec`, which is not `Copy`: tables are changed by value.
 #[derive(Clone, Copy, PartialEq, Eq, Debug)]
 pub struct Route {
     stops: [u32; ROUTE_PLACES],

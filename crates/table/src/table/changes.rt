@@ -10,7 +10,7 @@ ghost use Rattle.table.specs.Tables.{routes_in};
 use super::{ROUTES, Spot, Table};
 use records::route::is_stop;
 
-// Whether a number is that of a route.
+// Whether a number is that of a route. (A range of its own, beside those of stops and of counts.)
 fn is_route(number: u32) -> bool
     ensures { result ≡ is_route number }
 {
