@@ -1,10 +1,11 @@
 -- Lists of numbers: what stands in them, a number put in or taken out, and how long they can be. Assumes nothing.
-use Rattle.std.proofs.Common.{◌≡◌, ℕ, ◌+◌, ◌<◌, ◌≤◌, true, false, not, ◌||◌, eqb, List, [], ◌∷◌, ◌++◌, length, take, drop, sym, refl, ◌∙◌, arith}
+use Rattle.std.proofs.Common.{◌≡◌, ℕ, ◌+◌, ◌<◌, ◌≤◌, true, false, not, ◌||◌, eqb, List, [], ◌∷◌, ◌++◌, length, get_or, take, drop, sym, refl, ap, ◌∙◌, arith}
 use Rattle.std.specs.List.{AllByRecursion, IsDistinct, list_any}
-use Rattle.std.proofs.lemmas.Bool.{eqb-true, ne_eqb, not_from_true, not_from_false}
+use Rattle.std.proofs.lemmas.Bool.{eqb-true, eq-eqb, ne_eqb, not_from_true, not_from_false, cond-true, cond-false}
 use Rattle.std.proofs.lemmas.Bool.Decides.{nat_tests}
 use Rattle.std.proofs.lemmas.Grind.{common_steps}
-use Rattle.std.proofs.lemmas.List.{take-append-drop, length-take}
+use Rattle.std.proofs.lemmas.List.{append-nil, take-append-drop, take_more, length-take}
+use Rattle.std.proofs.lemmas.List.Elements.{filter-append}
 use Rattle.std.proofs.lemmas.List.Folds.{list_any-append}
 use Rattle.std.proofs.lemmas.List.Sums.{length-filter, count_by-le-length}
 use Rattle.std.proofs.lemmas.List.Sorted.{list_any-IsPermutation, IsPermutation-insert}
@@ -27,6 +28,17 @@ take_out_absent x (y ∷ ys) none = grind (arith, common_steps, take_out_absent 
 
 pub length-take_out-take : (x i : ℕ) (xs : List ℕ) → length (take_out x (take i xs)) ≤ i
 length-take_out-take x i xs = let test = λ (y : ℕ). not (eqb y x) in omega (arith, length-filter test (take i xs), count_by-le-length test (take i xs), length-take i xs)
+
+-- in a walk over the list, another number goes on and the same one does not
+module _ (x : ℕ) (ks : List ℕ) (i : ℕ) (lt : i < length ks) where
+  taken_on : take_out x (take (i + 1) ks) ≡ take_out x (take i ks) ++ take_out x (get_or ks i 0 ∷ [])
+  taken_on = ap (take_out x) (take_more ks i 0 lt) ∙ filter-append (λ y. not (eqb y x)) (take i ks) (get_or ks i 0 ∷ [])
+
+  pub other_goes_on : (get_or ks i 0 ≡ x → ⊥) → take_out x (take (i + 1) ks) ≡ take_out x (take i ks) ++ get_or ks i 0 ∷ []
+  other_goes_on other = taken_on ∙ ap (λ q. take_out x (take i ks) ++ q) (cond-true (not (eqb (get_or ks i 0) x)) _ _ (not_from_false _ (ne_eqb (get_or ks i 0) x other)))
+
+  pub same_is_out : get_or ks i 0 ≡ x → take_out x (take (i + 1) ks) ≡ take_out x (take i ks)
+  same_is_out same = taken_on ∙ ap (λ q. take_out x (take i ks) ++ q) (cond-false (not (eqb (get_or ks i 0) x)) _ _ (not_from_true _ (eq-eqb (get_or ks i 0) x same))) ∙ append-nil (take_out x (take i ks))
 
 pub holds_taken : (x : ℕ) (xs : List ℕ) → holds x (take_out x xs) ≡ false
 holds_taken x xs = any-filter_same (λ k. eqb k x) (λ k. not (eqb k x)) false (λ k e. not_from_true _ e) xs

@@ -24,7 +24,7 @@ module _ (rs : Routes) (plan : IsPlan rs) where
 
   -- a stop that stands is on a route, and is taken off that route alone
   module _ (x i : ℕ) (is : position (holds x) rs ≡ Some i) where
-    stands_at : (i < length rs) × (holds x (get_or rs i []) ≡ true)
+    pub stands_at : (i < length rs) × (holds x (get_or rs i []) ≡ true)
     stands_at = let on = found 0 x rs i (sym (place_is x rs) ∙ is) in grind arith
 
     pub dropped_at : (d : List ℕ) → set rs i (take_out x (get_or rs i d)) ≡ dropped x rs
@@ -50,6 +50,9 @@ module _ (rs : Routes) (plan : IsPlan rs) where
 
     high : s.route ≤ length rs
     high = omega (arith, plan.eight, number.1)
+
+    pub inside : s.route - 1 < length rs
+    inside = omega (arith, high, number.0)
 
     here : (d : List ℕ) → get_or rs (s.route - 1) d ≡ route_of rs s.route
     here d = get_or_default rs (s.route - 1) d [] (omega (arith, high, number.0))

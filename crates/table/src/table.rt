@@ -2,6 +2,7 @@
 ghost use Rattle.std.specs.Prelude.{◌≡◌};
 ghost use Rattle.table.specs.Routes.{no_stops};
 ghost use Rattle.table.specs.Standing.{IsPlan};
+ghost use Rattle.table.specs.Stored.{routes_of};
 
 use crate::route::Route;
 
@@ -15,12 +16,12 @@ pub const ROUTES: usize = 8;
 #[derive(Clone, Copy, PartialEq, Eq, Debug)]
 pub struct Table {
     routes: [Route; ROUTES],
-    ghost plan: { IsPlan routes },
+    ghost plan: { IsPlan (routes_of routes) },
 }
 
 // The routes of a new plan: all empty. Written by hand, since none is derived on a struct with a ghost field.
 impl Default for Table {
-    ghost is_default = { λ t. t.routes ≡ no_stops };
+    ghost is_default = { λ t. routes_of t.routes ≡ no_stops };
 
     fn default() -> Table {
         Table {

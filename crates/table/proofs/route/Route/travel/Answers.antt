@@ -13,14 +13,14 @@ travel_on : (ss : List Stop) (ls : List Leg) (from : ℕ) (ks : List ℕ) (i : �
 travel_on ss ls from ks i lt = at_drop_more (λ q. travel_of (steps_from ss ls from q)) ks i 0 lt ∙ grind (arith, common_steps)
 
 pub leg_travel-travel-requires-clause-far : goal.leg_travel-travel-requires-clause-far
-leg_travel-travel-requires-clause-far c = stop_at_lem _ _ c.loop-to-test.true c.stops-to-items.ensures.stops
+leg_travel-travel-requires-clause-far c = stop_at_lem _ _ c.loop-to-test.true c.stops-stops.ensures.stops
 
 pub loop-to-preserved : goal.loop-to-preserved
 loop-to-preserved c =
-    let ks = c.stops-to-items.result.now in
+    let ks = c.stops-stops.result.now in
     let i = c.loop-to.to-index in
     record {
-      near = stop_at_lem ks i c.loop-to-test.true c.stops-to-items.ensures.stops;
+      near = stop_at_lem ks i c.loop-to-test.true c.stops-stops.ensures.stops;
       small = omega (arith, c.leg_travel-travel.ensures.small);
       rest = omega (arith, c.leg_travel-travel.ensures.travel, travel_on c.args.tables.stops.now c.args.tables.legs.now c.loop-to.from ks i c.loop-to-test.true);
     }
