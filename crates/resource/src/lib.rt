@@ -3,6 +3,7 @@
 
 #![tactic(auto)]
 
+pub mod days;
 pub mod figures;
 pub mod interface;
 pub mod limits;

@@ -11,7 +11,6 @@ ghost use Rattle.resource.specs.Words.{greater, sound};
 use crate::interface::Resource;
 use crate::refusal::Refusal;
 use crate::rows::{join_words, judge_words, write_words};
-use crate::unlayered::Unlayered;
 use records::step::Step;
 
 // The words of a row, so many that the type tells.
@@ -115,6 +114,8 @@ impl<R: Recursion> Resource for R {
         write_words(self.first().as_row(), into)
     }
 
+    // the loop of `judge_route` is made of it
+    #[inline]
     fn extend(
         &self,
         step: &Step,
@@ -155,10 +156,4 @@ impl<R: Recursion> Resource for R {
         let accepted = self.judge_route(steps, marks, work)?;
         Ok(!accepted)
     }
-}
-
-impl<R: Recursion> Unlayered for R {
-    ghost keeps = { λ r. R.Recursion.keeps r };
-
-    ghost accepts_what_keeps = { λ r narrow ss ms. R.Recursion.accepts_what_keeps r ss ms };
 }
