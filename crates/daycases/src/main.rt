@@ -22,28 +22,29 @@ struct Trials<'a> {
     buffer: Vec<u8>,
 }
 
-// The day with one line replaced, or taken away.
-fn edited<'a>(
-    heap: Global,
-    day: &'a str,
-    number: usize,
-    new: &'a str,
-) -> Result<String, AllocError> {
-    let mut lines = Vec::new(heap);
+// The day with one line replaced, or taken away. Put together as it goes: a list of the lines, to be joined, would take up
+// to 32 times the memory of a day of short lines.
+fn edited(heap: Global, day: &str, number: usize, new: &str) -> Result<String, AllocError> {
+    let mut text = String::new(heap);
+    let mut first = true;
     for (k, line) in day.split('\n').enumerate() {
-        if k != number {
-            lines.push(line)?;
-        } else if new != TAKEN_AWAY {
-            lines.push(new)?;
+        let here = k == number;
+        if here && new == TAKEN_AWAY {
+            continue;
         }
+        if !first {
+            text.push_str("\n")?;
+        }
+        first = false;
+        text.push_str(if here { new } else { line })?;
     }
-    lines.join(heap, "\n")
+    Ok(text)
 }
 
-// A text, and then one byte again and again, up to a length.
+// A text, and then one byte again and again, up to a length; a text that is longer stays whole.
 fn filled_up(heap: Global, text: &[u8], byte: u8, length: usize) -> Result<Vec<u8>, AllocError> {
     let mut all = Vec::from_slice(heap, text)?;
-    all.resize(length, byte)?;
+    all.resize(length.max(text.len()), byte)?;
     Ok(all)
 }
 
@@ -136,20 +137,28 @@ impl<'a> Trials<'a> {
         self.show("rubbish after day A", &after)
     }
 
-    // Whether a beginning of a day is out of form on the line on which it breaks off.
-    fn breaks_off(&mut self, beginning: &[u8]) -> bool {
-        let line_ends = beginning.iter().filter(|b| **b == b'\n').count();
+    // Whether a beginning of a day is out of form on a line.
+    fn breaks_off(&mut self, beginning: &[u8], line: u32) -> bool {
         match self.copy(beginning) {
-            Err(CopyRefusal::Unread(ReadRefusal::Form(line))) => line as usize == line_ends + 1,
+            Err(CopyRefusal::Unread(ReadRefusal::Form(at))) => at == line,
             _ => false,
         }
     }
 
-    // How many proper beginnings of the day do so.
+    // How many proper beginnings of the day are so on the line on which they break off. The line is carried on: to count
+    // the lines of each beginning anew would take as many steps as the day has bytes, for each of them.
     fn count_beginnings(&mut self, day: &[u8]) -> usize {
-        (0..day.len())
-            .filter(|size| self.breaks_off(&day[..*size]))
-            .count()
+        let mut count = 0usize;
+        let mut line = 1u32;
+        for (size, b) in day.iter().enumerate() {
+            if self.breaks_off(&day[..size], line) {
+                count = count.saturating_add(1);
+            }
+            if *b == b'\n' {
+                line = line.saturating_add(1);
+            }
+        }
+        count
     }
 }
 

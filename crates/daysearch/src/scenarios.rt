@@ -50,7 +50,7 @@ fn scenario_list(heap: Global, case: &Case, choice: u32) -> Result<Vec<u8>, Allo
 }
 
 // The mark list of the first scenario in which the route is refused.
-pub fn search<F: Fn(&Case, &[u8]) -> bool>(
+pub(crate) fn search<F: Fn(&Case, &[u8]) -> bool>(
     heap: Global,
     case: &Case,
     accepts: &F,
