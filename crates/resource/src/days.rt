@@ -10,7 +10,7 @@ use crate::unlayered::Unlayered;
 use records::step::Step;
 
 // Whether the steps with the marks in the list are refused. The list stays as it is; what the work slice then holds is
-// left open. `judge_route` asks for a whole resource, and this for the four calls alone.
+// left open. `judge_route` asks for a resource with joins and their laws, and this for no join.
 pub fn refused_as_marked<R: Unlayered>(
     resource: &R,
     steps: &[Step],
@@ -33,7 +33,7 @@ pub fn refused_as_marked<R: Unlayered>(
 }
 
 // The verdict on the row that steps with their marks make of the start row. Both rows are of the width; the second is
-// where each step writes.
+// where each step writes. Not the loop of `judge_route`, whose calls are those of a whole resource.
 fn judge_run<R: Unlayered>(
     resource: &R,
     steps: &[Step],

@@ -1,5 +1,5 @@
 // A resource that is no layer: what its first day rests on, and what its verdict on a route says. It has four of the calls
-// of `Resource`, under names of its own, and asks for no more: rows that have no lawful join can be judged too.
+// of `Resource`, under names of its own, and owes one law; no join is asked for, no layers and none of the laws of rows.
 ghost use Rattle.std.specs.Prelude.{◌≡◌, ℕ, ◌≤◌, Bool, ◌&&◌, List, length, ◌==◌};
 ghost use Rattle.records.specs.declared.step.Step.{Step as RouteStep};
 ghost use Rattle.resource.specs.Answers.{row_answer, written};

@@ -52,6 +52,7 @@ impl Route {
         ensures { stops_of self.new ≡ take_out stop (stops_of self.old) }
     {
         let mut stops = [0; ROUTE_PLACES];
+        // counted by hand: to insert each stop that stays behind the last took half as long again
         let mut len = 0;
         for other in self.stops() {
             if *other != stop {
